@@ -1,0 +1,4 @@
+pub mod Below
+pub mod Laid
+pub mod Fencing
+pub mod Paging

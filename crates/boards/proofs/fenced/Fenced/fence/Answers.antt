@@ -1,0 +1,8 @@
+use native.Mathlib.Omega.{arith}
+use mathlib.Core.Path.{sym}
+use Rattle.std.proofs.shelf.Lists.{getD-past}
+use Rattle.boards.specs.Fences.{nowhere}
+use Rattle.boards.proofs.fenced.Fenced.fence.Needs as need
+
+pub returns-else-i-lt8 : need.returns-else-i-lt8
+returns-else-i-lt8 g c = sym (getD-past (c .args .self .now .fences) (c .args .i) nowhere (omega arith))

@@ -1,0 +1,4 @@
+pub mod Below
+pub mod Places
+pub mod Fences
+pub mod Pages

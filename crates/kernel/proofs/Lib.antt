@@ -1,0 +1,3 @@
+pub mod Wiping
+pub mod Holding
+pub mod Going

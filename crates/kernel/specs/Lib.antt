@@ -1,0 +1,4 @@
+pub mod Soundness
+pub mod Logs
+pub mod World
+pub mod Decisions

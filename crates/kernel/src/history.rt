@@ -1,0 +1,22 @@
+// A run: a history of events from the boot.
+ghost use mathlib.Core.Path.{_≡_};
+ghost use Rattle.vector.specs.Reading.{tables as tablesOf};
+ghost use Rattle.machine.specs.Step.{boot as bootOf};
+ghost use Rattle.machine.specs.Runs.{linesOf, eventsOf, lines};
+ghost use Rattle.kernel.specs.World.{worldOf, ended};
+use crate::whole::System;
+use board::Board;
+use machine::event::Exchange;
+use vector::checked::Checked;
+
+/// Boots a checked vector on a board, takes the events of the history one after another, and writes each answer beside its event.
+pub fn run<B: Board>(vector: Checked, board: B, history: &mut [Exchange]) -> System<B>
+    ensures ends { λ r. ⌜ worldOf areas r ≡ ended (tablesOf (now (vector .entry .bytes))) (areas board) (eventsOf (now (history .entry))) ⌝ }
+    ensures told { λ _. ⌜ linesOf (now (history .exit)) ≡ lines (tablesOf (now (vector .entry .bytes))) (bootOf (tablesOf (now (vector .entry .bytes))) (areas board)) (eventsOf (now (history .entry))) ⌝ }
+{
+    let mut system = System::boot(vector, board);
+    for i in 0..history.len() {
+        history[i].answer = system.event(history[i].event);
+    }
+    system
+}

@@ -1,0 +1,7 @@
+use mathlib.Core.Path.{refl}
+use Rattle.machine.specs.Questions.{holder}
+use Rattle.machine.proofs.examples_stand.Needs as need
+
+pub returns : need.returns
+unfolding holder
+returns c = refl

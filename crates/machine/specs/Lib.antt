@@ -1,0 +1,10 @@
+pub mod Partitions
+pub mod Answers
+pub mod Questions
+pub mod State
+pub mod Time
+pub mod Faults
+pub mod Calls
+pub mod Step
+pub mod Runs
+pub mod Examples

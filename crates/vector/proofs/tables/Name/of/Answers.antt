@@ -1,0 +1,17 @@
+use mathlib.Core.Path.{_≡_, ap, _∙_}
+use Prim.Native.Nat.{_<_}
+use lib.ListN.{set, getD, length}
+use native.Mathlib.Omega.{arith}
+use Rattle.vector.specs.declared.tables.Name.{Name}
+use Rattle.vector.proofs.Texts.{partly-more, partly-all}
+use Rattle.vector.proofs.tables.Name.of.Needs as need
+
+pub loop-i-again : need.loop-i-again
+loop-i-again c =
+    let i = c .loop-i .i in
+    ap (λ l. set l i (getD (c .args .text .now) i 0)) (c .loop-i .inv) ∙ partly-more (c .args .text .now) i (omega arith) (omega arith)
+
+pub returns : need.returns
+returns c =
+    let e = c .loop-i .inv ∙ partly-all (c .args .text .now) (c .loop-i .i) (omega arith) in
+    cc

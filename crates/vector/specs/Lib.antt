@@ -1,0 +1,14 @@
+pub mod Blank
+pub mod Sound
+pub mod Reasons
+pub mod Out
+pub mod Frames
+pub mod Fields
+pub mod Rows
+pub mod Names
+pub mod Sofars
+pub mod Turns
+pub mod Joins
+pub mod Fits
+pub mod Reading
+pub mod Examples
