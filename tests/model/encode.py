@@ -1,7 +1,7 @@
 """Writes vectors, events and scripts as bytes.
 
 The field widths stand here a second time, apart from those that the model reads
-with, so that a slip in one of them shows.
+with, so that a mistake in one of them shows.
 """
 
 from __future__ import annotations

@@ -21,7 +21,7 @@ from stage import Stage
 from state import State
 from test_isolation import Isolation  # noqa: F401, its tests run with these
 from test_refusals import Refusals  # noqa: F401
-from vector import VectorRefused, check
+from vector import ChannelType, Tables, VectorRefused, check
 
 EXAMPLE = bytes.fromhex(
     "020001000101 0400020000100041 04000300E8030000 090004000000000000E8030000")
@@ -86,6 +86,36 @@ class WorkedExamples(unittest.TestCase):
     def test_script_without_events(self):
         self.assertEqual(script.run(encode.script(EXAMPLE, [])).text(), "fenced\npaged\n")
         self.assertEqual(script.run(encode.script(b"", [])).text(), "refused 16 0\n")
+
+
+class Circles(unittest.TestCase):
+    """The circle against its meaning: of all closed sets, the one inside every other."""
+
+    def test_least_closed_set(self):
+        for seed in range(150):
+            tables = check(encode.vector(design(Random(seed), WHOLE)))
+            everyone = range(len(tables.partitions))
+            sets = [{member for member in everyone if mask >> member & 1}
+                    for mask in range(1 << len(tables.partitions))]
+            closed = [members for members in sets if is_closed(tables, members)]
+            for partition in everyone:
+                around = [members for members in closed if partition in members]
+                self.assertEqual(circle(tables, partition), set.intersection(*around), seed)
+
+
+def is_closed(tables: Tables, members: set[int]) -> bool:
+    """Holds every system partition, and whoever can reach a member."""
+    systems = {number for number, row in enumerate(tables.partitions) if row.is_system}
+    if not systems <= members:
+        return False
+    for channel in tables.channels:
+        writer, *readers = (tables.ports[number].partition for number in channel.ports)
+        if members & set(readers) and writer not in members:
+            return False
+        if channel.type == ChannelType.QUEUING and writer in members and readers[0] not in members:
+            return False
+    return all(source in members for (_, source), mask in tables.ipvis.items()
+               if any(mask >> member & 1 for member in members))
 
 
 class Rules(unittest.TestCase):

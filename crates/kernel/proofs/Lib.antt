@@ -1,3 +1,8 @@
-pub mod Wiping
-pub mod Holding
+pub mod Channelling
+pub mod Copying
 pub mod Going
+pub mod Holding
+pub mod Wiping
+pub mod Gapping
+pub mod Keeping
+pub mod Grounding

@@ -45,7 +45,8 @@ cleared ms i n = set ms i (zeroed n (area ms i))
 pub begun : (ms : List (List ℕ)) (i : ℕ) → ms ≡ cleared ms i 0
 begun ms i = sym (ap (set ms i) (zeroed-none (area ms i)) ∙ set-getD ms i [])
 
-there : (ms : List (List ℕ)) (i n : ℕ) → n < length (area ms i) → i < length ms
+-- an area with a byte in it is there
+pub there : (ms : List (List ℕ)) (i n : ℕ) → n < length (area ms i) → i < length ms
 there [] i n h = absurd (omega arith)
 there (m ∷ ms) zero n h = omega arith
 there (m ∷ ms) (suc i) n h = let z = there ms i n h in omega arith

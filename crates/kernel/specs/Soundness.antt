@@ -2,6 +2,8 @@
 use Prim.Native.Nat.{ℕ, _≤_, _<_}
 use lib.ListN.{getD}
 use Rattle.vector.specs.declared.tables.Plans.{Plans}
+use Rattle.vector.specs.declared.tables.Tables.{Tables}
+use Rattle.vector.specs.Fair.{channelAt}
 use Rattle.vector.specs.Blank.{slot0}
 use Rattle.machine.specs.Time.{planAt}
 
@@ -20,3 +22,7 @@ Slotted ps = (i : ℕ) → i < ps .count → planAt ps i .count ≤ 16
 -- each slot is of a partition below 8
 abbrev pub Owned : Plans → Type 0
 Owned ps = (i j : ℕ) → i < ps .count → j < planAt ps i .count → getD (planAt ps i .slots) j slot0 .partition < 8
+
+-- the channel of each port takes messages of at most 64 bytes, and at most 8 of them
+abbrev pub Bounded : Tables → Type 0
+Bounded t = (i : ℕ) → i < t .ports .count → (channelAt t i .longest ≤ 64) × (channelAt t i .depth ≤ 8)

@@ -6,10 +6,11 @@ use Rattle.machine.specs.declared.event.Event.{Event}
 use Rattle.machine.specs.Answers.{Reply}
 use Rattle.machine.specs.State.{State, Out, Result, settle, area}
 use Rattle.machine.specs.State.{Core as Machine}
-use Rattle.machine.specs.Calls.{Call}
+use Rattle.machine.specs.Management.{Call}
 use Rattle.machine.specs.Step.{step, boot}
 use Rattle.machine.specs.Runs.{after}
 use Rattle.kernel.specs.Logs.{logOf}
+use Rattle.kernel.specs.Rings.{chansOf}
 use Rattle.kernel.specs.declared.inner.Core.{Core}
 use Rattle.kernel.specs.declared.whole.System.{System}
 
@@ -23,7 +24,7 @@ pub record Moved : Type 0 where
   pub result : Result
 
 abbrev pub coreOf : Core → Machine
-coreOf x = record { clock = x .clock; halted = x .halted; parts = x .parts; log = logOf (x .log) }
+coreOf x = record { clock = x .clock; halted = x .halted; parts = x .parts; chans = chansOf (x .channels); log = logOf (x .log) }
 
 module _ {B : Type 0} where
   -- a system on a board whose areas are `m` of it

@@ -3,6 +3,7 @@ ghost use mathlib.Core.Path.{_≡_};
 ghost use Rattle.vector.specs.Reading.{tables as tablesOf};
 ghost use Rattle.machine.specs.Step.{boot as bootOf};
 ghost use Rattle.machine.specs.Runs.{linesOf, eventsOf, lines};
+ghost use Rattle.kernel.specs.Promises.{Isolating, Preserving};
 ghost use Rattle.kernel.specs.World.{worldOf, ended};
 use crate::whole::System;
 use board::Board;
@@ -13,6 +14,8 @@ use vector::checked::Checked;
 pub fn run<B: Board>(vector: Checked, board: B, history: &mut [Exchange]) -> System<B>
     ensures ends { λ r. ⌜ worldOf areas r ≡ ended (tablesOf (now (vector .entry .bytes))) (areas board) (eventsOf (now (history .entry))) ⌝ }
     ensures told { λ _. ⌜ linesOf (now (history .exit)) ≡ lines (tablesOf (now (vector .entry .bytes))) (bootOf (tablesOf (now (vector .entry .bytes))) (areas board)) (eventsOf (now (history .entry))) ⌝ }
+    ensures isolated { λ r. ⌜ Isolating (tablesOf (now (vector .entry .bytes))) (areas board) (eventsOf (now (history .entry))) (linesOf (now (history .exit))) (worldOf areas r .state) ⌝ }
+    ensures preserved { λ r. ⌜ Preserving (tablesOf (now (vector .entry .bytes))) (eventsOf (now (history .entry))) (areas board) (areas (r .board)) ⌝ }
 {
     let mut system = System::boot(vector, board);
     for i in 0..history.len() {

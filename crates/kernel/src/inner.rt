@@ -1,4 +1,5 @@
 // The state of the core, without the board.
+use crate::channels::Channels;
 use crate::log::Log;
 use machine::clock::Clock;
 use machine::partition::Partition;
@@ -10,5 +11,6 @@ pub struct Core {
     pub(crate) clock: Clock,
     pub(crate) halted: bool,
     pub(crate) parts: [Partition; 8],
+    pub(crate) channels: Channels,
     pub(crate) log: Log,
 }

@@ -1,7 +1,8 @@
 // The log: the last 32 entries.
 ghost use mathlib.Core.Path.{_≡_};
 ghost use mathlib.Core.List.{List, []};
-ghost use Rattle.queue.specs.Ring.{over};
+ghost use lib.ListN.{length};
+ghost use Rattle.queue.specs.Ring.{first, rest, over};
 ghost use Rattle.kernel.specs.Logs.{logOf, Noted};
 use machine::log::Entry;
 use queue::Queue;
@@ -46,5 +47,23 @@ impl Log {
         ensures is { λ _. ⌜ logOf (now (self .exit)) ≡ [] ⌝ }
     {
         self.queue.clear(&self.cells);
+    }
+
+    /// Takes the oldest entry.
+    pub(crate) fn take(&mut self) -> Option<Entry>
+        requires sound { ⌜ Noted (now self) ⌝ }
+        ensures sound { λ _. ⌜ Noted (now (self .exit)) ⌝ }
+        ensures took { λ r. ⌜ r ≡ first (logOf (now (self .entry))) ⌝ }
+        ensures left { λ _. ⌜ logOf (now (self .exit)) ≡ rest (logOf (now (self .entry))) ⌝ }
+    {
+        self.queue.pop(&self.cells)
+    }
+
+    /// How many entries there are.
+    pub(crate) fn count(&self) -> u8
+        requires sound { ⌜ Noted (now self) ⌝ }
+        ensures { λ r. ⌜ r ≡ length (logOf (now (self .entry))) ⌝ }
+    {
+        self.queue.count(&self.cells) as u8
     }
 }

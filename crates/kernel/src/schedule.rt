@@ -1,7 +1,10 @@
 // Who is on the processor.
 ghost use mathlib.Core.Path.{_≡_};
 ghost use Prim.Native.Nat.{ℕ, _≤_};
+ghost use Rattle.vector.specs.Fair.{Within};
+ghost use Rattle.vector.specs.Sound.{SoundPlan};
 ghost use Rattle.machine.specs.Questions.{slotsOf, covers, holder};
+ghost use Rattle.machine.specs.Management.{gaps};
 use machine::clock::Time;
 use vector::tables::Plan;
 use vector::tables::Slot;
@@ -25,4 +28,20 @@ pub(crate) fn holder(plan: &Plan, offset: Time) -> Option<u8>
         }
     }
     None
+}
+
+/// The microseconds of the plan's frame that no slot has, gap by gap.
+pub(crate) fn slotless(plan: &Plan) -> Time
+    requires sound { ⌜ SoundPlan (now plan) ⌝ }
+    requires within { ⌜ Within (now plan) ⌝ }
+    ensures { λ r. ⌜ r ≡ gaps 0 (slotsOf (now (plan .entry))) (now (plan .entry) .frame) ⌝ }
+{
+    let mut end: Time = 0;
+    let mut sum: Time = 0;
+    for i in 0..plan.count {
+        let slot = &plan.slots[i];
+        sum += slot.start.saturating_sub(end);
+        end = slot.start + slot.duration;
+    }
+    sum + plan.frame.saturating_sub(end)
 }

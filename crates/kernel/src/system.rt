@@ -1,31 +1,29 @@
 // What each event does.
-ghost use mathlib.Core.Bool.{true};
+ghost use mathlib.Core.Bool.{true, cond};
+ghost use Rattle.std.specs.Options.{Cases as BySome};
+ghost use Rattle.std.specs.declared.option.Option.the-variants.{Some, None};
 ghost use mathlib.Core.Path.{_≡_};
 ghost use Prim.Native.Nat.{ℕ, _<_, _≤_};
 ghost use Rattle.vector.specs.Reading.{tables as tablesOf};
 ghost use Rattle.machine.specs.Answers.{replyOf};
-ghost use Rattle.machine.specs.declared.answer.Answer.the-variants.{Responded};
-ghost use Rattle.machine.specs.Calls.{getTime, called};
+ghost use Rattle.machine.specs.Partitions.{bit};
+ghost use Rattle.machine.specs.Questions.{exists};
+ghost use Rattle.machine.specs.Circle.{Circle, circleOf};
+ghost use Rattle.machine.specs.Calls.{called};
 ghost use Rattle.machine.specs.Calls.{perform as performOf};
-ghost use Rattle.machine.specs.Faults.{logged, carried, restarted, systemCarried, strayed};
 ghost use Rattle.machine.specs.State.{area};
-ghost use Rattle.machine.specs.Step.{running, load, store, fault, systemFault, tick};
-ghost use Rattle.machine.specs.Step.{line as lineOf};
-ghost use Rattle.kernel.specs.Decisions.{executed, home, Reaches};
-ghost use Rattle.kernel.specs.World.{coreOf, worldOf, with-core, gives, settled, performed, stepped, booted};
+ghost use Rattle.machine.specs.Step.{running, load, store, tick};
+ghost use Rattle.kernel.specs.Promises.{Apart};
+ghost use Rattle.kernel.specs.World.{coreOf, worldOf, gives, settled, performed, stepped, booted};
 use crate::areas::is_fitting;
-use crate::areas::wipe;
-use crate::areas::wipe_all;
+use crate::channels::Channels;
 use crate::inner::Core;
 use crate::log::Log;
-use crate::monitor::Decision;
-use crate::monitor::Scope;
-use crate::monitor::decide;
-use crate::monitor::decide_whole;
 use crate::schedule::holder;
 use crate::whole::System;
 use board::Board;
 use clock::pass;
+use lookup::circle;
 use machine::answer::Answer;
 use machine::answer::Refusal;
 use machine::clock::Clock;
@@ -34,20 +32,37 @@ use machine::clock::Time;
 use machine::event::Args;
 use machine::event::Event;
 use machine::event::Hypercall;
-use machine::log::Entry;
-use machine::log::SYSTEM;
 use machine::partition::Partition;
 use vector::checked::Checked;
-use vector::tables::Action;
-use vector::tables::Response;
 
-const CALLS: [Hypercall; 1] = [Hypercall::GetTime];
-
-/// The bit that signals a fault.
-const FAULT: u32 = 1 << 9;
-
-/// The event of a load or store outside the area.
-const MEM_PROTECTION: u8 = 6;
+/// The calls by their numbers.
+const CALLS: [Hypercall; 25] = [
+    Hypercall::GetTime,
+    Hypercall::GetPartitionStatus,
+    Hypercall::HaltPartition,
+    Hypercall::SuspendPartition,
+    Hypercall::ResumePartition,
+    Hypercall::ResetPartition,
+    Hypercall::IdleSelf,
+    Hypercall::SwitchPlan,
+    Hypercall::GetPlanStatus,
+    Hypercall::CreateSamplingPort,
+    Hypercall::WriteSamplingMessage,
+    Hypercall::ReadSamplingMessage,
+    Hypercall::CreateQueuingPort,
+    Hypercall::SendQueuingMessage,
+    Hypercall::ReceiveQueuingMessage,
+    Hypercall::GetQueuingStatus,
+    Hypercall::RaiseIpvi,
+    Hypercall::GetIrqs,
+    Hypercall::SetIrqMask,
+    Hypercall::ClearIrqMask,
+    Hypercall::ClearIrqPending,
+    Hypercall::RaisePartitionError,
+    Hypercall::ReadLog,
+    Hypercall::ResetSystem,
+    Hypercall::HaltSystem,
+];
 
 impl<B: Board> System<B> {
     /// Boots a checked vector on a board; on one that does not fit the system is halted.
@@ -67,6 +82,7 @@ impl<B: Board> System<B> {
             clock,
             halted,
             parts: [Partition::new(); 8],
+            channels: Channels::new(),
             log: Log::new(),
         };
         System { board, core }
@@ -85,101 +101,6 @@ impl<B: Board> System<B> {
             Some(p) => p == q && self.core.parts[usize::from(q)].is_ready(),
             None => false,
         }
-    }
-
-    /// The entry of a fault event, where the response asks for one.
-    fn note(&mut self, partition: u8, event: u8, response: Response)
-        ensures { λ _. ⌜ worldOf areas (now (self .exit)) ≡ with-core (logged partition event response (coreOf (now (self .entry) .core))) (worldOf areas (now (self .entry))) ⌝ }
-    {
-        if response.log {
-            self.core.log.note(Entry {
-                action: response.action,
-                partition,
-                event,
-                time: self.core.clock.time,
-            });
-        }
-    }
-
-    /// What an action does to a partition.
-    fn act(&mut self, action: Action, q: u8)
-        requires { ⌜ q < 8 ⌝ }
-        ensures { λ r. ⌜ gives (worldOf areas (now (self .exit))) (replyOf (Responded action)) ≡ settled q (carried action q (coreOf (now (self .entry) .core))) (worldOf areas (now (self .entry))) ⌝ }
-    {
-        let i = usize::from(q);
-        match action {
-            Action::Ignore => {}
-            Action::Signal => self.core.parts[i].signal(FAULT),
-            Action::Suspend => self.core.parts[i].suspend(),
-            Action::Halt => self.core.parts[i].halt(),
-            Action::WarmReset => self.core.parts[i].reset(),
-            Action::ColdReset => {
-                self.core.parts[i].reset();
-                wipe(&mut self.board, i);
-            }
-        }
-    }
-
-    /// A frame of plan 0 begins now, with every partition reset.
-    fn restart(&mut self)
-        ensures { λ r. ⌜ worldOf areas (now (self .exit)) ≡ with-core (restarted (coreOf (now (self .entry) .core))) (worldOf areas (now (self .entry))) ⌝ }
-    {
-        self.core.clock = Clock {
-            plan: 0,
-            next: 0,
-            start: self.core.clock.time,
-            ..self.core.clock
-        };
-        self.core.parts = [Partition::new(); 8];
-    }
-
-    /// What an action does to the system.
-    fn act_whole(&mut self, action: Action)
-        ensures { λ r. ⌜ gives (worldOf areas (now (self .exit))) (replyOf (Responded action)) ≡ settled 0 (systemCarried (now (self .entry) .core .tables) action (coreOf (now (self .entry) .core))) (worldOf areas (now (self .entry))) ⌝ }
-    {
-        match action {
-            Action::Ignore | Action::Signal | Action::Suspend => {}
-            Action::Halt => self.core.halted = true,
-            Action::WarmReset => self.restart(),
-            Action::ColdReset => {
-                self.restart();
-                self.core.log.clear();
-                wipe_all(&mut self.board, self.core.tables.partitions.count);
-            }
-        }
-    }
-
-    /// Carries a decision out: the log entry first, then the action.
-    fn carry_out(&mut self, decision: Decision) -> Answer
-        requires { ⌜ Reaches (decision .scope) ⌝ }
-        ensures { λ r. ⌜ gives (worldOf areas (now (self .exit))) (replyOf r) ≡ settled (home (decision .scope)) (executed (decision .scope) decision (now (self .entry) .core .tables) (coreOf (now (self .entry) .core))) (worldOf areas (now (self .entry))) ⌝ }
-    {
-        let Decision {
-            scope,
-            event,
-            response,
-        } = decision;
-        match scope {
-            Scope::Guest(q) => {
-                self.note(q, event, response);
-                self.act(response.action, q);
-            }
-            Scope::Whole => {
-                self.note(SYSTEM, event, response);
-                self.act_whole(response.action);
-            }
-        }
-        Answer::Responded(response.action)
-    }
-
-    /// A load or store outside the area is a fault of its guest.
-    fn stray(&mut self, q: u8) -> Answer
-        requires { ⌜ q < 8 ⌝ }
-        ensures { λ r. ⌜ gives (worldOf areas (now (self .exit))) (replyOf r) ≡ settled q (strayed (now (self .entry) .core .tables) (coreOf (now (self .entry) .core)) q) (worldOf areas (now (self .entry))) ⌝ }
-    {
-        let decision = decide(&self.core.tables, q, MEM_PROTECTION);
-        let _ = self.carry_out(decision);
-        Answer::Outside
     }
 
     fn load(&mut self, q: u8, offset: u32) -> Answer
@@ -202,36 +123,6 @@ impl<B: Board> System<B> {
         }
     }
 
-    fn fault(&mut self, q: u8, event: u8) -> Answer
-        requires { ⌜ q < 8 ⌝ }
-        ensures { λ r. ⌜ gives (worldOf areas (now (self .exit))) (replyOf r) ≡ settled q (fault (now (self .entry) .core .tables) (coreOf (now (self .entry) .core)) q event) (worldOf areas (now (self .entry))) ⌝ }
-    {
-        if event > 6 {
-            return Answer::Refused(Refusal::InvalidParam);
-        }
-        let decision = decide(&self.core.tables, q, event);
-        self.carry_out(decision)
-    }
-
-    fn system_fault(&mut self, event: u8) -> Answer
-        ensures { λ r. ⌜ gives (worldOf areas (now (self .exit))) (replyOf r) ≡ settled 0 (systemFault (now (self .entry) .core .tables) (coreOf (now (self .entry) .core)) event) (worldOf areas (now (self .entry))) ⌝ }
-    {
-        if event < 8 || event > 11 {
-            return Answer::Refused(Refusal::InvalidParam);
-        }
-        let decision = decide_whole(&self.core.tables, event);
-        self.carry_out(decision)
-    }
-
-    fn line(&mut self, line: u8) -> Answer
-        ensures { λ r. ⌜ gives (worldOf areas (now (self .exit))) (replyOf r) ≡ settled 0 (lineOf (coreOf (now (self .entry) .core)) line) (worldOf areas (now (self .entry))) ⌝ }
-    {
-        if line > 15 {
-            return Answer::Refused(Refusal::InvalidParam);
-        }
-        Answer::Refused(Refusal::NoAction)
-    }
-
     /// Goes on to the time t, which is not before now and not too far ahead.
     fn tick(&mut self, t: Time) -> Answer
         ensures { λ r. ⌜ gives (worldOf areas (now (self .exit))) (replyOf r) ≡ settled 0 (tick (now (self .entry) .core .tables) (coreOf (now (self .entry) .core)) t) (worldOf areas (now (self .entry))) ⌝ }
@@ -249,19 +140,36 @@ impl<B: Board> System<B> {
         Answer::Done
     }
 
-    fn get_time(&mut self, q: u8, args: Args) -> Answer
-        requires { ⌜ q < 8 ⌝ }
-        ensures { λ r. ⌜ gives (worldOf areas (now (self .exit))) (replyOf r) ≡ performed getTime q args (worldOf areas (now (self .entry))) ⌝ }
-    {
-        Answer::Time(self.core.clock.time)
-    }
-
     fn perform(&mut self, call: Hypercall, q: u8, args: Args) -> Answer
         requires { ⌜ q < 8 ⌝ }
         ensures { λ r. ⌜ gives (worldOf areas (now (self .exit))) (replyOf r) ≡ performed (performOf call) q args (worldOf areas (now (self .entry))) ⌝ }
     {
         match call {
             Hypercall::GetTime => self.get_time(q, args),
+            Hypercall::GetPartitionStatus => self.get_partition_status(q, args),
+            Hypercall::HaltPartition => self.halt_partition(q, args),
+            Hypercall::SuspendPartition => self.suspend_partition(q, args),
+            Hypercall::ResumePartition => self.resume_partition(q, args),
+            Hypercall::ResetPartition => self.reset_partition(q, args),
+            Hypercall::IdleSelf => self.idle_self(q, args),
+            Hypercall::SwitchPlan => self.switch_plan(q, args),
+            Hypercall::GetPlanStatus => self.get_plan_status(q, args),
+            Hypercall::CreateSamplingPort => self.create_sampling_port(q, args),
+            Hypercall::WriteSamplingMessage => self.write_sampling_message(q, args),
+            Hypercall::ReadSamplingMessage => self.read_sampling_message(q, args),
+            Hypercall::CreateQueuingPort => self.create_queuing_port(q, args),
+            Hypercall::SendQueuingMessage => self.send_queuing_message(q, args),
+            Hypercall::ReceiveQueuingMessage => self.receive_queuing_message(q, args),
+            Hypercall::GetQueuingStatus => self.get_queuing_status(q, args),
+            Hypercall::RaiseIpvi => self.raise_ipvi(q, args),
+            Hypercall::GetIrqs => self.get_irqs(q, args),
+            Hypercall::SetIrqMask => self.set_irq_mask(q, args),
+            Hypercall::ClearIrqMask => self.clear_irq_mask(q, args),
+            Hypercall::ClearIrqPending => self.clear_irq_pending(q, args),
+            Hypercall::RaisePartitionError => self.raise_partition_error(q, args),
+            Hypercall::ReadLog => self.read_log(q, args),
+            Hypercall::ResetSystem => self.reset_system(q, args),
+            Hypercall::HaltSystem => self.halt_system(q, args),
         }
     }
 
@@ -269,14 +177,31 @@ impl<B: Board> System<B> {
         requires { ⌜ q < 8 ⌝ }
         ensures { λ r. ⌜ gives (worldOf areas (now (self .exit))) (replyOf r) ≡ performed (called number) q args (worldOf areas (now (self .entry))) ⌝ }
     {
-        if number >= 1 {
+        if number >= 25 {
             return Answer::Refused(Refusal::UnknownHypercall);
         }
-        self.perform(CALLS[usize::from(number)], q, args)
+        self.perform(CALLS[number as usize], q, args)
     }
 
-    /// Takes one event.
+    /// Takes one event. What belongs to others stays: an event of one partition leaves every other area as it was,
+    /// save a system partition's cold reset.
     pub fn event(&mut self, e: Event) -> Answer
+        ensures is { λ r. ⌜ gives (worldOf areas (now (self .exit))) (replyOf r) ≡ stepped e (worldOf areas (now (self .entry))) ⌝ }
+        ensures apart { λ _. ⌜ Apart (now (self .entry) .core .tables) e (areas (now (self .entry) .board)) (areas (now (self .exit) .board)) ⌝ }
+    {
+        self.handle(e)
+    }
+
+    /// The circle of a partition as a mask, or none where the vector has no such partition.
+    pub fn circle(&self, partition: u8) -> Option<u8>
+        ensures is { λ r. ⌜ r ≡ cond (exists (now (self .entry) .core .tables) partition) (Some (circleOf (now (self .entry) .core .tables) partition)) None ⌝ }
+        ensures least { λ r. ⌜ BySome r (Unit {0}) (λ m. Circle (now (self .entry) .core .tables) partition (bit m)) ⌝ }
+    {
+        circle(&self.core.tables, partition)
+    }
+
+    /// Decides what an event does.
+    fn handle(&mut self, e: Event) -> Answer
         ensures { λ r. ⌜ gives (worldOf areas (now (self .exit))) (replyOf r) ≡ stepped e (worldOf areas (now (self .entry))) ⌝ }
     {
         if self.core.halted {

@@ -1,0 +1,15 @@
+pub mod Agree
+pub mod Alike
+pub mod Sealed
+pub mod Respects
+pub mod Targets
+pub mod Signals
+pub mod Responses
+pub mod Ports
+pub mod Calls
+pub mod Ticks
+pub mod Steps
+pub mod Theorem
+pub mod Integrity
+pub mod Bits
+pub mod Rounds

@@ -5,21 +5,25 @@ use Prim.Native.Nat.{ℕ}
 use Rattle.std.specs.declared.option.Option.{Option}
 use Rattle.std.specs.declared.option.Option.the-variants.{Some, None}
 use Rattle.vector.specs.Examples.{Example, examples}
-use Rattle.vector.specs.Reading.{Verdict, verdict, tables}
+use Rattle.vector.specs.Reading.{Verdict, taken, verdict, tables}
 use Rattle.machine.specs.Questions.{plan, slotsOf, holder}
+use Rattle.machine.specs.Circle.{circleOf}
 
--- the verdict on a vector, or who has the slot at an offset of its first plan's frame
+-- the verdict on a vector, who has the slot at an offset of its first plan's frame, or the circle of a partition
 pub data Question : Type 0 where
   vector : List ℕ → Question
   slot : List ℕ → ℕ → Question
+  circle : List ℕ → ℕ → Question
 
 pub data Finding : Type 0 where
   says : Verdict → Finding
   runs : Option ℕ → Finding
+  mask : ℕ → Finding
 
 abbrev pub asked : Question → Finding
 asked (vector bs) = says (verdict bs)
 asked (slot bs o) = runs (holder (slotsOf (plan (tables bs) 0)) o)
+asked (circle bs p) = mask (circleOf (tables bs) p)
 
 pub record Worked : Type 0 where
   pub question : Question
@@ -38,12 +42,30 @@ shared =
     ∷ 9 ∷ 0 ∷ 4 ∷ 0 ∷ 0 ∷ 0 ∷ 0 ∷ 0 ∷ 0 ∷ 16 ∷ 39 ∷ 0 ∷ 0
     ∷ 9 ∷ 0 ∷ 4 ∷ 0 ∷ 1 ∷ 152 ∷ 58 ∷ 0 ∷ 0 ∷ 136 ∷ 19 ∷ 0 ∷ 0 ∷ []
 
+-- three standard partitions: A (0) sends B (1) a queue, and C (2) raises an IPVI to A
+abbrev pub linked : List ℕ
+linked =
+    2 ∷ 0 ∷ 1 ∷ 0 ∷ 3 ∷ 1
+    ∷ 4 ∷ 0 ∷ 2 ∷ 0 ∷ 0 ∷ 16 ∷ 0 ∷ 65
+    ∷ 4 ∷ 0 ∷ 2 ∷ 0 ∷ 0 ∷ 16 ∷ 0 ∷ 66
+    ∷ 4 ∷ 0 ∷ 2 ∷ 0 ∷ 0 ∷ 16 ∷ 0 ∷ 67
+    ∷ 4 ∷ 0 ∷ 3 ∷ 0 ∷ 232 ∷ 3 ∷ 0 ∷ 0
+    ∷ 9 ∷ 0 ∷ 4 ∷ 0 ∷ 0 ∷ 0 ∷ 0 ∷ 0 ∷ 0 ∷ 232 ∷ 3 ∷ 0 ∷ 0
+    ∷ 4 ∷ 0 ∷ 5 ∷ 0 ∷ 1 ∷ 8 ∷ 0 ∷ 2
+    ∷ 3 ∷ 0 ∷ 6 ∷ 0 ∷ 0 ∷ 0 ∷ 111
+    ∷ 3 ∷ 0 ∷ 6 ∷ 0 ∷ 1 ∷ 1 ∷ 105
+    ∷ 3 ∷ 0 ∷ 7 ∷ 0 ∷ 0 ∷ 2 ∷ 1 ∷ []
+
 abbrev pub worked : List Worked
 worked =
     map ofVector examples
     ++ (record { question = slot shared 9999; finding = runs (Some 0) }
     ∷ record { question = slot shared 10000; finding = runs None }
     ∷ record { question = slot shared 15000; finding = runs (Some 1) }
+    -- B's circle is A, B and C; C's is C
+    ∷ record { question = vector linked; finding = says taken }
+    ∷ record { question = circle linked 1; finding = mask 7 }
+    ∷ record { question = circle linked 2; finding = mask 4 }
     ∷ [])
 
 abbrev pub ask : Worked → Finding

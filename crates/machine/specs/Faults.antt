@@ -13,10 +13,10 @@ use Rattle.vector.specs.Blank.{response0}
 use Rattle.machine.specs.declared.clock.Clock.{Clock}
 use Rattle.machine.specs.declared.log.Entry.{Entry}
 use Rattle.machine.specs.Partitions.{halted, suspended, fresh, signalled}
-use Rattle.machine.specs.Answers.{Reply, reply, actionCode}
+use Rattle.machine.specs.Answers.{Reply, reply, actionNumber}
 use Rattle.machine.specs.Questions.{response}
 use Rattle.machine.specs.Time.{clockOf}
-use Rattle.machine.specs.State.{Core, Effect, keeps, clears, clearsAll, Out, replied, with-clock, with-parts, with-log, with-halted, modify}
+use Rattle.machine.specs.State.{Core, Effect, keeps, clears, clearsAll, Out, replied, with-clock, with-parts, with-chans, with-log, with-halted, modify}
 
 -- the bit that signals a fault
 abbrev pub faultBit : ℕ
@@ -35,7 +35,7 @@ logged q e r x = cond (r .log) (noted (entry q e (r .action) (x .clock .time)) x
 
 -- an outcome whose code is the action
 abbrev pub acted : Action → Core → Effect → Out
-acted a x f = record { core = x; effect = f; reply = reply (actionCode a) 0 0 }
+acted a x f = record { core = x; effect = f; reply = reply (pos (actionNumber a)) 0 0 }
 
 -- what an action does to a partition
 abbrev pub carried : Action → ℕ → Core → Out
@@ -54,9 +54,9 @@ faulted k x q e = carried (response k q e .action) q (logged q e (response k q e
 abbrev pub strayed : Tables → Core → ℕ → Out
 strayed k x q = replied (reply (pos 1) 0 0) (faulted k x q 6)
 
--- a system reset: every partition reset, both plans 0, a frame begins now
+-- a system reset: every partition reset, the channels empty, both plans 0, a frame begins now
 abbrev pub restarted : Core → Core
-restarted x = with-parts (with-clock x (clockOf (x .clock .time) 0 0 (x .clock .time))) (replicate 8 fresh)
+restarted x = with-chans (with-parts (with-clock x (clockOf (x .clock .time) 0 0 (x .clock .time))) (replicate 8 fresh)) (replicate 8 [])
 
 -- what an action does to the system; a cold reset also empties the log and the partitions' areas
 abbrev pub systemCarried : Tables → Action → Core → Out

@@ -10,12 +10,15 @@ use Rattle.machine.specs.declared.log.Entry.{Entry}
 use Rattle.machine.specs.declared.answer.Refusal.{Refusal}
 use Rattle.machine.specs.Answers.{Reply, reply, refusalCode}
 use Rattle.machine.specs.Partitions.{nobody}
+use Rattle.machine.specs.Letters.{Letter}
 
--- all but the areas: the plan position, whether the system is halted, the partitions, and the log, the oldest entry first
+-- all but the areas: the plan position, whether the system is halted, the partitions,
+-- the messages of each channel and the log, the oldest first
 pub record Core : Type 0 where
   pub clock : Clock
   pub halted : Bool
   pub parts : List Partition
+  pub chans : List (List Letter)
   pub log : List Entry
 
 pub record State : Type 0 where
@@ -40,8 +43,12 @@ pub record Result : Type 0 where
   pub state : State
   pub reply : Reply
 
+-- an answer whose code is a number
+abbrev pub told : Core → ℕ → ℕ → ℕ → Out
+told x z m n = record { core = x; effect = keeps; reply = reply (pos z) m n }
+
 abbrev pub answered : Core → ℕ → ℕ → Out
-answered x m n = record { core = x; effect = keeps; reply = reply (pos 0) m n }
+answered x m n = told x 0 m n
 
 abbrev pub done : Core → Out
 done x = answered x 0 0
@@ -59,16 +66,23 @@ guard true u v = u
 guard false u v = v
 
 abbrev pub with-clock : Core → Clock → Core
-with-clock x c = record { clock = c; halted = x .halted; parts = x .parts; log = x .log }
+with-clock x c = record { clock = c; halted = x .halted; parts = x .parts; chans = x .chans; log = x .log }
 
 abbrev pub with-parts : Core → List Partition → Core
-with-parts x ps = record { clock = x .clock; halted = x .halted; parts = ps; log = x .log }
+with-parts x ps = record { clock = x .clock; halted = x .halted; parts = ps; chans = x .chans; log = x .log }
+
+abbrev pub with-chans : Core → List (List Letter) → Core
+with-chans x cs = record { clock = x .clock; halted = x .halted; parts = x .parts; chans = cs; log = x .log }
+
+-- one channel with other messages
+abbrev pub with-chan : Core → ℕ → List Letter → Core
+with-chan x c ms = with-chans x (set (x .chans) c ms)
 
 abbrev pub with-log : Core → List Entry → Core
-with-log x es = record { clock = x .clock; halted = x .halted; parts = x .parts; log = es }
+with-log x es = record { clock = x .clock; halted = x .halted; parts = x .parts; chans = x .chans; log = es }
 
 abbrev pub with-halted : Core → Bool → Core
-with-halted x b = record { clock = x .clock; halted = b; parts = x .parts; log = x .log }
+with-halted x b = record { clock = x .clock; halted = b; parts = x .parts; chans = x .chans; log = x .log }
 
 -- one partition, changed by a function
 abbrev pub modify : List Partition → ℕ → (Partition → Partition) → List Partition

@@ -7,13 +7,14 @@ use lib.ListN.{length, getD, set, replicate}
 use Rattle.vector.specs.declared.tables.Tables.{Tables}
 use Rattle.machine.specs.declared.event.Event.{Event}
 use Rattle.machine.specs.declared.event.Event.the-variants.{Tick, Call, Load, Store, Fault, Line, SystemFault}
-use Rattle.machine.specs.declared.answer.Refusal.the-variants.{NoAction, InvalidParam, OpNotAllowed, NotOnProcessor, SystemHalted}
+use Rattle.machine.specs.declared.answer.Refusal.the-variants.{InvalidParam, OpNotAllowed, NotOnProcessor, SystemHalted}
 use Rattle.machine.specs.Partitions.{nobody, fresh, isReady}
 use Rattle.machine.specs.Questions.{exists, row, plan, slotsOf, holder, names}
 use Rattle.machine.specs.State.{Core, State, Effect, keeps, writes, Out, Result, answered, done, refused, guard, with-parts, with-clock, area, settle}
 use Rattle.machine.specs.Answers.{reply}
 use Rattle.machine.specs.Time.{Timed, timed, clockOf, micros}
 use Rattle.machine.specs.Faults.{faulted, strayed, systemFaulted}
+use Rattle.machine.specs.Interrupts.{line}
 use Rattle.machine.specs.Calls.{called}
 use lib.IntN.{pos}
 
@@ -40,10 +41,6 @@ store k x a q o v =
 abbrev pub fault : Tables → Core → ℕ → ℕ → Out
 fault k x q e = guard (ltb e 7) (faulted k x q e) (refused x InvalidParam)
 
--- no line has an owner
-abbrev pub line : Core → ℕ → Out
-line x l = guard (ltb l 16) (refused x NoAction) (refused x InvalidParam)
-
 abbrev pub systemFault : Tables → Core → ℕ → Out
 systemFault k x e = guard (leb 8 e && ltb e 12) (systemFaulted k x e) (refused x InvalidParam)
 
@@ -68,7 +65,7 @@ outcome k s (Call q n g) = gate k (s .core) q (called n k (s .core) (area (s .ar
 outcome k s (Load q o) = gate k (s .core) q (load k (s .core) (area (s .areas) q) q o)
 outcome k s (Store q o v) = gate k (s .core) q (store k (s .core) (area (s .areas) q) q o v)
 outcome k s (Fault q e) = gate k (s .core) q (fault k (s .core) q e)
-outcome k s (Line l) = line (s .core) l
+outcome k s (Line l) = line k (s .core) l
 outcome k s (SystemFault e) = systemFault k (s .core) e
 
 -- whose area an event may write
@@ -97,6 +94,6 @@ fits k ms = fitsBelow k ms (k .partitions .count)
 abbrev pub boot : Tables → List (List ℕ) → State
 boot k ms =
     record {
-      core = record { clock = clockOf 0 0 0 0; halted = not (fits k ms); parts = replicate 8 fresh; log = [] };
+      core = record { clock = clockOf 0 0 0 0; halted = not (fits k ms); parts = replicate 8 fresh; chans = replicate 8 []; log = [] };
       areas = ms;
     }

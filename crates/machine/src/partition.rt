@@ -1,7 +1,8 @@
 // The record of a partition, and what can happen to it.
 ghost use mathlib.Core.Path.{_≡_};
 ghost use mathlib.Core.Bool.{Bool};
-ghost use Rattle.machine.specs.Partitions.{fresh, isReady, hidden, halted, suspended, signalled, woken};
+ghost use Prim.Native.Nat.{_<_};
+ghost use Rattle.machine.specs.Partitions.{fresh, isReady, isActive, isSuspended, isOpen, hidden, halted, suspended, resumed, idled, opened, masked, unmasked, acknowledged, signalled, woken};
 
 /// The state of a partition.
 #[derive(Clone, Copy)]
@@ -10,6 +11,27 @@ pub enum Status {
     Ready,
     Idle,
     Suspended,
+}
+
+impl Status {
+    /// Whether it is READY or IDLE.
+    pub fn is_active(self) -> bool
+        ensures { λ r. ⌜ r ≡ isActive self ⌝ }
+    {
+        match self {
+            Status::Ready | Status::Idle => true,
+            Status::Halted | Status::Suspended => false,
+        }
+    }
+
+    pub fn is_suspended(self) -> bool
+        ensures { λ r. ⌜ r ≡ isSuspended self ⌝ }
+    {
+        match self {
+            Status::Suspended => true,
+            Status::Halted | Status::Ready | Status::Idle => false,
+        }
+    }
 }
 
 /// A partition's state, its pending and mask words, and the set of its open ports by number.
@@ -57,6 +79,57 @@ impl Partition {
         ensures { λ _. ⌜ now (self .exit) ≡ suspended (now (self .entry)) ⌝ }
     {
         self.status = Status::Suspended;
+    }
+
+    pub fn resume(&mut self)
+        ensures { λ _. ⌜ now (self .exit) ≡ resumed (now (self .entry)) ⌝ }
+    {
+        self.status = Status::Ready;
+    }
+
+    /// IDLE, unless an unmasked bit is pending.
+    pub fn idle(&mut self)
+        ensures { λ _. ⌜ now (self .exit) ≡ idled (now (self .entry)) ⌝ }
+    {
+        if self.is_hidden() {
+            self.status = Status::Idle;
+        }
+    }
+
+    /// Whether the port of this number is open.
+    pub fn is_open(&self, port: u8) -> bool
+        requires { ⌜ port < 32 ⌝ }
+        ensures { λ r. ⌜ r ≡ isOpen port (now (self .entry)) ⌝ }
+    {
+        self.ports & (1 << port) != 0
+    }
+
+    pub fn open(&mut self, port: u8)
+        requires { ⌜ port < 32 ⌝ }
+        ensures { λ _. ⌜ now (self .exit) ≡ opened port (now (self .entry)) ⌝ }
+    {
+        self.ports |= 1 << port;
+    }
+
+    /// Sets bits in the mask.
+    pub fn mask(&mut self, bits: u32)
+        ensures { λ _. ⌜ now (self .exit) ≡ masked bits (now (self .entry)) ⌝ }
+    {
+        self.mask |= bits;
+    }
+
+    /// Clears bits in the mask.
+    pub fn unmask(&mut self, bits: u32)
+        ensures { λ _. ⌜ now (self .exit) ≡ unmasked bits (now (self .entry)) ⌝ }
+    {
+        self.mask &= !bits;
+    }
+
+    /// Clears bits in the pending word.
+    pub fn acknowledge(&mut self, bits: u32)
+        ensures { λ _. ⌜ now (self .exit) ≡ acknowledged bits (now (self .entry)) ⌝ }
+    {
+        self.pending &= !bits;
     }
 
     /// READY and cleared.

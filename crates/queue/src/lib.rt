@@ -24,7 +24,8 @@ impl Queue {
     /// How many entries there are.
     pub fn count<X: Copy>(&self, cells: &[X]) -> usize
         requires sound { ⌜ Sound (now self) (now cells) ⌝ }
-        ensures { λ r. ⌜ r ≡ length (entries (now (self .entry)) (now (cells .entry))) ⌝ }
+        ensures is { λ r. ⌜ r ≡ length (entries (now (self .entry)) (now (cells .entry))) ⌝ }
+        ensures few { λ r. ⌜ r ≤ length (now (cells .entry)) ⌝ }
     {
         self.count.min(cells.len())
     }

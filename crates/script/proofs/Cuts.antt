@@ -1,5 +1,5 @@
 -- What is left after the first bytes of a slice pattern, and the parts that a length cuts off.
-use mathlib.Core.Path.{_≡_, refl, sym, ap, _∙_}
+use mathlib.Core.Path.{_≡_, sym, ap, _∙_}
 use mathlib.Core.Bool.{true}
 use mathlib.Core.List.{List}
 use Prim.Native.Nat.{ℕ, _+_, _-_, _≤_}
@@ -12,7 +12,7 @@ use Rattle.script.specs.Format.{shortAt, part, beyond, kindOf, bodyLength, eve
 use Rattle.script.specs.declared.kind.EventKind.{EventKind}
 
 -- the rest of a slice pattern with n names before it
-rest-is : (n : ℕ) (bs : List ℕ) → take (length bs - n) (drop n bs) ≡ drop n bs
+pub rest-is : (n : ℕ) (bs : List ℕ) → take (length bs - n) (drop n bs) ≡ drop n bs
 rest-is n bs = take-all (length bs - n) (drop n bs) (omega (arith, length-drop n bs))
 
 -- n is the number at the front; `rest` is what a slice pattern leaves after the head

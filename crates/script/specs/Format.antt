@@ -1,5 +1,5 @@
 -- The script format: a 2-byte vector length, the vector, then event records to the end; numbers have their low byte first.
-use mathlib.Core.Bool.{Bool, true, false, cond, _&&_}
+use mathlib.Core.Bool.{Bool, cond, _&&_}
 use mathlib.Core.List.{List, [], _∷_, map}
 use Prim.Native.Nat.{ℕ, zero, suc, _+_, _*_}
 use lib.Dec.{leb, eqb}
@@ -49,13 +49,13 @@ bodyLength Line = 1
 bodyLength SystemFault = 1
 
 -- five arguments of four bytes each
-abbrev pub argsAt : List ℕ → ℕ → List ℕ
-argsAt b i = longAt b i ∷ longAt b (i + 4) ∷ longAt b (i + 8) ∷ longAt b (i + 12) ∷ longAt b (i + 16) ∷ []
+abbrev pub argsOf : List ℕ → List ℕ
+argsOf b = longAt b 0 ∷ longAt b 4 ∷ longAt b 8 ∷ longAt b 12 ∷ longAt b 16 ∷ []
 
 -- the fields of a body, in their order
 abbrev pub eventOf : EventKind → List ℕ → Event
 eventOf Tick b = events.Tick (longAt b 0)
-eventOf Call b = events.Call (byteAt b 0) (byteAt b 1) (argsAt b 2)
+eventOf Call b = events.Call (byteAt b 0) (byteAt b 1) (argsOf (drop 2 b))
 eventOf Load b = events.Load (byteAt b 0) (longAt b 1)
 eventOf Store b = events.Store (byteAt b 0) (longAt b 1) (byteAt b 5)
 eventOf Fault b = events.Fault (byteAt b 0) (byteAt b 1)

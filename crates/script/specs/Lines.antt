@@ -1,4 +1,4 @@
--- The text of an answer.
+-- How an answer is written.
 use mathlib.Core.List.{List, _++_}
 use Prim.Native.Nat.{ℕ}
 use lib.Chars.{codes}
@@ -10,5 +10,6 @@ use Rattle.script.specs.declared.line.Line.{Line}
 abbrev pub spaced : Reply → List ℕ
 spaced r = signed (r .code) ++ (codes " " ++ (decimal (r .a) ++ (codes " " ++ decimal (r .b))))
 
+-- the text of an answer's line
 abbrev pub text : Line → List ℕ
 text l = spaced (replyOf (l .0))

@@ -1,12 +1,14 @@
-// The fields of a record's body, for each kind.
+// The fields of a record's body, for each kind. A body comes here only with its kind's length.
 ghost use mathlib.Core.Path.{_≡_};
+ghost use Prim.Native.Nat.{_+_, _≤_};
 ghost use lib.ListN.{length};
-ghost use Rattle.script.specs.Format.{bodyLength, byteAt, eventOf};
+ghost use Rattle.script.specs.Format.{argsOf, bodyLength, byteAt, eventOf, longAt};
 use crate::kind::EventKind;
+use machine::event::Args;
 use machine::event::Event;
 
 fn tick(body: &[u8]) -> Event
-    requires { ⌜ length (now body) ≡ 4 ⌝ }
+    requires { ⌜ length (now body) ≡ bodyLength EventKind.Tick ⌝ }
     ensures { λ r. ⌜ r ≡ eventOf EventKind.Tick (now (body .entry)) ⌝ }
 {
     let [t0, t1, t2, t3] = body else {
@@ -17,52 +19,44 @@ fn tick(body: &[u8]) -> Event
     }
 }
 
+/// The 4-byte number at a place.
+fn long_at(bytes: &[u8], at: usize) -> u32
+    requires { ⌜ at + 4 ≤ length (now bytes) ⌝ }
+    ensures { λ r. ⌜ r ≡ longAt (now (bytes .entry)) at ⌝ }
+{
+    u32::from_le_bytes([bytes[at], bytes[at + 1], bytes[at + 2], bytes[at + 3]])
+}
+
+/// The five arguments of a call, one after another.
+fn read_args(bytes: &[u8]) -> Args
+    requires { ⌜ length (now bytes) ≡ 20 ⌝ }
+    ensures { λ r. ⌜ r ≡ argsOf (now (bytes .entry)) ⌝ }
+{
+    [
+        long_at(bytes, 0),
+        long_at(bytes, 4),
+        long_at(bytes, 8),
+        long_at(bytes, 12),
+        long_at(bytes, 16),
+    ]
+}
+
 fn call(body: &[u8]) -> Event
-    requires { ⌜ length (now body) ≡ 22 ⌝ }
+    requires { ⌜ length (now body) ≡ bodyLength EventKind.Call ⌝ }
     ensures { λ r. ⌜ r ≡ eventOf EventKind.Call (now (body .entry)) ⌝ }
 {
-    let [
-        partition,
-        number,
-        a0,
-        a1,
-        a2,
-        a3,
-        b0,
-        b1,
-        b2,
-        b3,
-        c0,
-        c1,
-        c2,
-        c3,
-        d0,
-        d1,
-        d2,
-        d3,
-        e0,
-        e1,
-        e2,
-        e3,
-    ] = body
-    else {
+    let [partition, number, args @ ..] = body else {
         unreachable()
     };
     Event::Call {
         partition: *partition,
         number: *number,
-        args: [
-            u32::from_le_bytes([*a0, *a1, *a2, *a3]),
-            u32::from_le_bytes([*b0, *b1, *b2, *b3]),
-            u32::from_le_bytes([*c0, *c1, *c2, *c3]),
-            u32::from_le_bytes([*d0, *d1, *d2, *d3]),
-            u32::from_le_bytes([*e0, *e1, *e2, *e3]),
-        ],
+        args: read_args(args),
     }
 }
 
 fn load(body: &[u8]) -> Event
-    requires { ⌜ length (now body) ≡ 5 ⌝ }
+    requires { ⌜ length (now body) ≡ bodyLength EventKind.Load ⌝ }
     ensures { λ r. ⌜ r ≡ eventOf EventKind.Load (now (body .entry)) ⌝ }
 {
     let [partition, o0, o1, o2, o3] = body else {
@@ -75,7 +69,7 @@ fn load(body: &[u8]) -> Event
 }
 
 fn store(body: &[u8]) -> Event
-    requires { ⌜ length (now body) ≡ 6 ⌝ }
+    requires { ⌜ length (now body) ≡ bodyLength EventKind.Store ⌝ }
     ensures { λ r. ⌜ r ≡ eventOf EventKind.Store (now (body .entry)) ⌝ }
 {
     let [partition, o0, o1, o2, o3, byte] = body else {
@@ -89,7 +83,7 @@ fn store(body: &[u8]) -> Event
 }
 
 fn fault(body: &[u8]) -> Event
-    requires { ⌜ length (now body) ≡ 2 ⌝ }
+    requires { ⌜ length (now body) ≡ bodyLength EventKind.Fault ⌝ }
     ensures { λ r. ⌜ r ≡ eventOf EventKind.Fault (now (body .entry)) ⌝ }
 {
     let [partition, event] = body else {

@@ -11,34 +11,11 @@ use std::alloc::Global;
 use std::test::*;
 
 /// A vector of two bytes, then a tick to 5 and a store of 7 at 258 by partition 1.
-const STORE: [u8; 22] = [
-    2,
-    0,
-    65,
-    66,
-    4,
-    0,
-    32,
-    0,
-    5,
-    0,
-    0,
-    0,
-    6,
-    0,
-    35,
-    0,
-    1,
-    2,
-    1,
-    0,
-    0,
-    7,
-];
+const TICK_AND_STORE: [u8; 22] = *b"\x02\0AB\x04\0\x20\0\x05\0\0\0\x06\0\x23\0\x01\x02\x01\0\0\x07";
 
 #[test]
 fn reads_events(rt: LibcRuntime) -> Result<(), Fail> {
-    let script = read_script(rt.alloc(), &STORE)?;
+    let script = read_script(rt.alloc(), &TICK_AND_STORE)?;
     check(script.vector.len() == 2 && script.history.len() == 2)?;
     let Event::Tick { time } = script.history[0].event else {
         return Err(Fail::new("no tick"));
@@ -67,7 +44,7 @@ fn refuses_malformed(rt: LibcRuntime) -> Result<(), Fail> {
     check(is_malformed(heap, &[])).note("no length")?;
     check(is_malformed(heap, &[1, 0])).note("a cut vector")?;
     check(is_malformed(heap, &[0, 0, 1, 0, 37])).note("a cut head")?;
-    check(is_malformed(heap, &STORE[0..21])).note("a cut body")?;
+    check(is_malformed(heap, &TICK_AND_STORE[0..21])).note("a cut body")?;
     check(is_malformed(heap, &[0, 0, 1, 0, 39, 0, 0])).note("another kind")?;
     check(is_malformed(heap, &[0, 0, 2, 0, 37, 0, 0, 0])).note("another length")?;
     check(is_malformed(heap, &[0; 32_769])).note("too long")?;

@@ -1,7 +1,15 @@
 pub mod Outs
+pub mod Lists
 pub mod Cuts
 pub mod Texts
 pub mod Told
+pub mod Joined
 pub mod Rooms
+pub mod Heard
 pub mod Scans
+pub mod Keeps
+pub mod Fits
 pub mod Laws
+pub mod Follows
+pub mod Shares
+pub mod Fairness

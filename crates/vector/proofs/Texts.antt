@@ -1,8 +1,8 @@
 -- Names as the code goes over them, byte by byte and row by row.
-use mathlib.Core.Path.{_≡_, refl, sym, ap, _∙_}
-use mathlib.Core.Bool.{Bool, false, _&&_, _||_}
+use mathlib.Core.Path.{_≡_, ap}
+use mathlib.Core.Bool.{Bool, false, _||_}
 use mathlib.Core.List.{List, _∷_, [], _++_}
-use Prim.Native.Nat.{ℕ, suc, _+_, _<_, _≤_}
+use Prim.Native.Nat.{ℕ, _+_, _<_, _≤_}
 use native.Mathlib.Numerals.{add-one}
 use native.Mathlib.Omega.{arith}
 use lib.ListN.{length, getD, set, take, drop, replicate}
@@ -13,9 +13,7 @@ use Rattle.std.specs.shelf.Text.{sameBytes}
 use Rattle.std.proofs.shelf.Equals.{matches-decides, sameBytes-decides}
 use Rattle.std.proofs.shelf.Lists.{drop-all, take-more, drop-more, set-at, append-assoc, length-take-le, length-replicate, take-all}
 use Rattle.std.proofs.shelf.Ways.{same-from-decides}
-use Rattle.vector.specs.Names.{sameName, named}
-use Rattle.vector.specs.declared.tables.Name.{Name}
-use Rattle.vector.specs.declared.tables.PartitionRow.{PartitionRow}
+use Rattle.vector.specs.Names.{any}
 
 pub same : (xs ys : List ℕ) (r : Bool) → Matches (λ (a b : ℕ) (t : Bool). Decides t (a ≡ b)) xs ys r → r ≡ sameBytes xs ys
 same xs ys r h = same-from-decides r (sameBytes xs ys) (matches-decides xs ys r h) (sameBytes-decides xs ys)
@@ -38,10 +36,10 @@ partly-more bs i h j =
 pub partly-all : (bs : List ℕ) (i : ℕ) → i ≡ length bs → partly bs i ≡ bs ++ drop (length bs) (replicate 16 0)
 partly-all bs i e = rw e (ap (λ l. l ++ drop (length bs) (replicate 16 0)) (take-all (length bs) bs (omega arith)))
 
--- the rows from the one at i on have the name n
-module _ (rs : List PartitionRow) (n : Name) where
-  pub named-at : (i : ℕ) (d : PartitionRow) → i < length rs → named (drop i rs) n ≡ (sameName (getD rs i d .name) n || named (drop (i + 1) rs) n)
-  named-at i d h = rw add-one (ap (λ l. named l n) (drop-cons rs i d h))
+-- whether one of the rows from the one at i on passes a test
+module _ {A : Type 0} (test : A → Bool) (rs : List A) where
+  pub any-at : (i : ℕ) (d : A) (r : Bool) → i < length rs → r ≡ test (getD rs i d) → any test (drop i rs) ≡ (r || any test (drop (i + 1) rs))
+  any-at i d r h e = rw (add-one, e) (ap (any test) (drop-cons rs i d h))
 
-  pub named-end : (i : ℕ) → length rs ≤ i → named (drop i rs) n ≡ false
-  named-end i h = ap (λ l. named l n) (drop-all i rs h)
+  pub any-end : (i : ℕ) → length rs ≤ i → any test (drop i rs) ≡ false
+  any-end i h = ap (any test) (drop-all i rs h)

@@ -2,12 +2,16 @@
 use mathlib.Core.Bool.{true, false}
 use mathlib.Core.List.{List, [], _∷_}
 use Rattle.vector.specs.declared.tables.Class.the-variants.{Standard}
+use Rattle.vector.specs.declared.tables.ChannelKind.the-variants.{Sampling}
+use Rattle.vector.specs.declared.tables.Direction.the-variants.{Source}
 use Rattle.vector.specs.declared.tables.Action.the-variants.{Ignore, Signal, Suspend, Halt, WarmReset}
 use Rattle.vector.specs.declared.tables.Name.{Name}
 use Rattle.vector.specs.declared.tables.Response.{Response}
 use Rattle.vector.specs.declared.tables.PartitionRow.{PartitionRow}
 use Rattle.vector.specs.declared.tables.Slot.{Slot}
 use Rattle.vector.specs.declared.tables.Plan.{Plan}
+use Rattle.vector.specs.declared.tables.Channel.{Channel}
+use Rattle.vector.specs.declared.tables.Port.{Port}
 
 abbrev pub name0 : Name
 name0 = record { length = 0; bytes = [] }
@@ -16,13 +20,19 @@ abbrev pub response0 : Response
 response0 = record { action = Ignore; log = false }
 
 abbrev pub row0 : PartitionRow
-row0 = record { class = Standard; size = 0; name = name0; responses = [] }
+row0 = record { class = Standard; size = 0; name = name0; responses = []; links = [] }
 
 abbrev pub slot0 : Slot
 slot0 = record { partition = 0; start = 0; duration = 0 }
 
 abbrev pub plan0 : Plan
 plan0 = record { frame = 0; count = 0; slots = [] }
+
+abbrev pub channel0 : Channel
+channel0 = record { kind = Sampling; longest = 0; depth = 0; ports = 0 }
+
+abbrev pub port0 : Port
+port0 = record { partition = 0; channel = 0; direction = Source; name = name0 }
 
 -- signal without a log entry, and three responses that are logged
 abbrev pub signalled : Response

@@ -1,44 +1,19 @@
--- The fields of each kind of record, from the left; `at` is the place of the body's first byte.
-use mathlib.Core.Bool.{cond, _&&_}
-use mathlib.Core.List.{List}
-use Prim.Native.Nat.{ℕ, _+_, _*_}
+-- Single fields of a record: a value in its range, or a refusal at its place.
+use mathlib.Core.Bool.{Bool, true, false, cond, not, _&&_}
+use Prim.Native.Nat.{ℕ, _/_, _%_, _^_}
 use lib.Dec.{ltb, leb, eqb}
-use lib.ListN.{getD, drop}
 use Rattle.vector.specs.Reasons.{outOfRange}
-use Rattle.vector.specs.Out.{Out, fine, bad, then, pass}
-use Rattle.vector.specs.Frames.{word16}
-use Rattle.vector.specs.declared.record.NameIn.{NameIn}
-use Rattle.vector.specs.declared.record.Record.{Record}
-use Rattle.vector.specs.declared.record.Record.the-variants as records
-use Rattle.vector.specs.declared.record.Kind.{Kind}
-use Rattle.vector.specs.declared.record.Kind.the-variants.{Header, Partition, Plan, Slot}
+use Rattle.vector.specs.Out.{Out, fine, bad}
+use Rattle.vector.specs.declared.record.Scope.{Scope}
+use Rattle.vector.specs.declared.record.Scope.the-variants as scopes
 use Rattle.vector.specs.declared.tables.Class.{Class}
 use Rattle.vector.specs.declared.tables.Class.the-variants.{Standard, System}
-
--- four bytes from i on, the low one first
-abbrev pub word32 : List ℕ → ℕ → ℕ
-word32 bs i = word16 bs i + 65536 * word16 bs (i + 2)
-
--- a name, and the place of its first byte
-pub record NameAt : Type 0 where
-  pub at : ℕ
-  pub bytes : List ℕ
-
--- what a record says
-pub data Said : Type 0 where
-  header : ℕ → ℕ → Said
-  partition : Class → ℕ → NameAt → Said
-  plan : ℕ → Said
-  slot : ℕ → ℕ → ℕ → Said
-
-abbrev pub nameOf : NameIn → NameAt
-nameOf n = record { at = n .at; bytes = n .bytes .now }
-
-abbrev pub saidOf : Record → Said
-saidOf (records.Header n m) = header n m
-saidOf (records.Partition c s n) = partition c s (nameOf n)
-saidOf (records.Plan f) = plan f
-saidOf (records.Slot p s d) = slot p s d
+use Rattle.vector.specs.declared.tables.ChannelKind.{ChannelKind}
+use Rattle.vector.specs.declared.tables.ChannelKind.the-variants.{Sampling, Queuing}
+use Rattle.vector.specs.declared.tables.Direction.{Direction}
+use Rattle.vector.specs.declared.tables.Direction.the-variants.{Source, Destination}
+use Rattle.vector.specs.declared.tables.Action.{Action}
+use Rattle.vector.specs.declared.tables.Action.the-variants.{Ignore, Signal, Suspend, Halt, WarmReset, ColdReset}
 
 -- a value is in its range
 abbrev pub within : ℕ → ℕ → ℕ → ℕ → Out (Unit {0})
@@ -52,35 +27,55 @@ existing n at p = cond (ltb p n) (fine tt) (bad (outOfRange at))
 abbrev pub classOf : ℕ → ℕ → Out Class
 classOf at c = cond (eqb c 0) (fine Standard) (cond (eqb c 1) (fine System) (bad (outOfRange at)))
 
--- 1 to 8 partitions, 1 to 4 plans
-abbrev pub headerOf : ℕ → List ℕ → Out Said
-headerOf at b =
-    pass (within 1 8 at (getD b 0 0))
-    (pass (within 1 4 (at + 1) (getD b 1 0))
-    (fine (header (getD b 0 0) (getD b 1 0))))
+-- 0 is a sampling channel, 1 a queuing channel
+abbrev pub channelKindOf : ℕ → ℕ → Out ChannelKind
+channelKindOf at k = cond (eqb k 0) (fine Sampling) (cond (eqb k 1) (fine Queuing) (bad (outOfRange at)))
 
--- a class, a size of 1 to 1,024 bytes, and the name to the end of the body
-abbrev pub partitionOf : ℕ → List ℕ → Out Said
-partitionOf at b =
-    then (classOf at (getD b 0 0)) (λ c.
-    pass (within 1 1024 (at + 1) (word16 b 1))
-    (fine (partition c (word16 b 1) (record { at = at + 3; bytes = drop 3 b }))))
+-- the most messages that a channel of each kind may hold
+abbrev pub deepest : ChannelKind → ℕ
+deepest Sampling = 1
+deepest Queuing = 8
 
--- a frame of 1 to 1,000,000 microseconds
-abbrev pub planOf : ℕ → List ℕ → Out Said
-planOf at b = pass (within 1 1000000 at (word32 b 0)) (fine (plan (word32 b 0)))
+-- 0 is a source, 1 a destination
+abbrev pub directionNumber : Direction → ℕ
+directionNumber Source = 0
+directionNumber Destination = 1
 
--- one of n partitions, a start of 0 to 999,999 and a duration of 1 to 1,000,000 microseconds
-abbrev pub slotOf : ℕ → ℕ → List ℕ → Out Said
-slotOf n at b =
-    pass (existing n at (getD b 0 0))
-    (pass (within 0 999999 (at + 1) (word32 b 1))
-    (pass (within 1 1000000 (at + 5) (word32 b 5))
-    (fine (slot (getD b 0 0) (word32 b 1) (word32 b 5)))))
+-- the number is that of the direction
+abbrev pub directed : Direction → ℕ → ℕ → Out (Unit {0})
+directed d at v = cond (eqb v (directionNumber d)) (fine tt) (bad (outOfRange at))
 
--- what a body of each kind says, where there are n partitions
-abbrev pub saidBy : Kind → ℕ → ℕ → List ℕ → Out Said
-saidBy Header n at b = headerOf at b
-saidBy Partition n at b = partitionOf at b
-saidBy Plan n at b = planOf at b
-saidBy Slot n at b = slotOf n at b
+-- bit i of a mask
+abbrev pub hasBit : ℕ → ℕ → Bool
+hasBit mask i = eqb (mask / 2 ^ i % 2) 1
+
+-- a mask has no bit from n on, and not the source's
+abbrev pub masked : ℕ → ℕ → ℕ → ℕ → Out (Unit {0})
+masked n source at mask = cond (eqb (mask / 2 ^ n) 0 && not (hasBit mask source)) (fine tt) (bad (outOfRange at))
+
+-- one of n partitions, or 255 for the system
+abbrev pub scopeOf : ℕ → ℕ → ℕ → Out Scope
+scopeOf n at v = cond (ltb v n) (fine (scopes.Partition v)) (cond (eqb v 255) (fine scopes.System) (bad (outOfRange at)))
+
+-- a partition has the events 0 to 7, the system 8 to 11
+abbrev pub eventOf : Scope → ℕ → ℕ → Out (Unit {0})
+eventOf (scopes.Partition p) at e = within 0 7 at e
+eventOf scopes.System at e = within 8 11 at e
+
+-- what is left where the action is none of ignore, signal and suspend
+abbrev pub laterAction : ℕ → ℕ → Out Action
+laterAction at a =
+    cond (eqb a 3) (fine Halt)
+    (cond (eqb a 4) (fine WarmReset)
+    (cond (eqb a 5) (fine ColdReset)
+    (bad (outOfRange at))))
+
+-- 0 ignore, 1 signal, 2 suspend, 3 halt, 4 warm reset, 5 cold reset; the system has no 1 and no 2
+abbrev pub actionOf : Scope → ℕ → ℕ → Out Action
+actionOf (scopes.Partition p) at a =
+    cond (eqb a 0) (fine Ignore) (cond (eqb a 1) (fine Signal) (cond (eqb a 2) (fine Suspend) (laterAction at a)))
+actionOf scopes.System at a = cond (eqb a 0) (fine Ignore) (laterAction at a)
+
+-- 0 is no, 1 is yes
+abbrev pub flagOf : ℕ → ℕ → Out Bool
+flagOf at v = cond (eqb v 0) (fine false) (cond (eqb v 1) (fine true) (bad (outOfRange at)))

@@ -1,5 +1,5 @@
 -- How a record is cut off the front of the bytes that are left.
-use mathlib.Core.Bool.{Bool, true, false, cond, _&&_}
+use mathlib.Core.Bool.{Bool, cond, _&&_}
 use mathlib.Core.List.{List}
 use Prim.Native.Nat.{ℕ, _+_, _*_}
 use lib.Dec.{ltb, leb, eqb}
@@ -8,7 +8,7 @@ use Rattle.vector.specs.Reasons.{pastEnd, unknownKind, wrongLength}
 use Rattle.vector.specs.Out.{Out, fine, bad, then}
 use Rattle.vector.specs.declared.record.Cut.{Cut}
 use Rattle.vector.specs.declared.record.Kind.{Kind}
-use Rattle.vector.specs.declared.record.Kind.the-variants.{Header, Partition, Plan, Slot}
+use Rattle.vector.specs.declared.record.Kind.the-variants.{Header, Partition, Plan, Slot, Channel, Port, Ipvi, Line, Action}
 
 -- two bytes from i on, the low one first
 abbrev pub word16 : List ℕ → ℕ → ℕ
@@ -21,7 +21,12 @@ kindOf at k =
     (cond (eqb k 2) (fine Partition)
     (cond (eqb k 3) (fine Plan)
     (cond (eqb k 4) (fine Slot)
-    (bad (unknownKind at)))))
+    (cond (eqb k 5) (fine Channel)
+    (cond (eqb k 6) (fine Port)
+    (cond (eqb k 7) (fine Ipvi)
+    (cond (eqb k 8) (fine Line)
+    (cond (eqb k 9) (fine Action)
+    (bad (unknownKind at))))))))))
 
 -- how long the body of each kind is
 abbrev pub suits : Kind → ℕ → Bool
@@ -29,6 +34,11 @@ suits Header n = eqb n 2
 suits Partition n = leb 4 n && leb n 19
 suits Plan n = eqb n 4
 suits Slot n = eqb n 9
+suits Channel n = eqb n 4
+suits Port n = leb 3 n && leb n 18
+suits Ipvi n = eqb n 3
+suits Line n = eqb n 2
+suits Action n = eqb n 4
 
 -- a record cut off: its kind, its body, and the bytes after it
 pub record Framed : Type 0 where

@@ -4,11 +4,14 @@ pub mod Reasons
 pub mod Out
 pub mod Frames
 pub mod Fields
+pub mod Bodies
 pub mod Rows
 pub mod Names
 pub mod Sofars
 pub mod Turns
 pub mod Joins
-pub mod Fits
+pub mod Rooms
 pub mod Reading
+pub mod Points
 pub mod Examples
+pub mod Fair

@@ -3,10 +3,9 @@ use mathlib.Core.Bool.{Bool, true, false}
 use mathlib.Core.List.{List, [], _∷_}
 use Prim.Native.Nat.{ℕ, zero, suc, _+_}
 use lib.ListN.{length}
-use Rattle.vector.specs.Reasons.{Reason}
 use Rattle.vector.specs.Out.{Out, fine, bad, then, pass}
 use Rattle.vector.specs.Frames.{framed}
-use Rattle.vector.specs.Fields.{saidBy}
+use Rattle.vector.specs.Bodies.{Said, saidBy}
 use Rattle.vector.specs.Rows.{blank}
 use Rattle.vector.specs.Sofars.{nothing}
 use Rattle.vector.specs.Turns.{turned, ending}
@@ -16,9 +15,13 @@ use Rattle.vector.specs.declared.record.Kind.{Kind}
 use Rattle.vector.specs.declared.sofar.Sofar.{Sofar}
 use Rattle.vector.specs.declared.tables.Tables.{Tables}
 
--- a record of a known kind and the right length: its turn, then its fields, then its relations
+-- what a record of a known kind and the right length says: its turn comes before its fields
+abbrev pub heard : ℕ → Sofar → Kind → List ℕ → Out Said
+heard at s k body = pass (turned at k s) (saidBy k s (at + 4) body)
+
+-- and its fields before its relations
 abbrev pub followed : ℕ → Sofar → Kind → List ℕ → Out Sofar
-followed at s k body = pass (turned at k s) (then (saidBy k (s .partitions) (at + 4) body) (joined at s))
+followed at s k body = then (heard at s k body) (joined at s)
 
 -- over the bytes, of which the next `skip` belong to a record that was read; `at` is the next record's place
 abbrev pub scan : ℕ → ℕ → Sofar → List ℕ → Out Sofar
@@ -47,6 +50,15 @@ verdictOf (bad r) = refused (r .layer) (r .number) (r .place)
 -- the verdict on a vector: taken, or refused by a layer's number at a place
 abbrev pub verdict : List ℕ → Verdict
 verdict bs = verdictOf (reading bs)
+
+-- 0 where the vector is taken
+abbrev pub numberIn : Verdict → ℕ
+numberIn taken = 0
+numberIn (refused l n p) = n
+
+abbrev pub placeIn : Verdict → ℕ
+placeIn taken = 0
+placeIn (refused l n p) = p
 
 -- the vector is taken, as a test
 abbrev pub takes : List ℕ → Bool

@@ -4,6 +4,7 @@ ghost use mathlib.Core.Bool.{true};
 ghost use mathlib.Core.Path.{_≡_};
 ghost use Rattle.vector.specs.Reading.{takes, tables};
 ghost use Rattle.vector.specs.Sound.{Sound};
+ghost use Rattle.vector.specs.Fair.{Fair};
 use crate::scan::gather;
 use crate::tables::Tables;
 
@@ -25,6 +26,7 @@ impl<'a> Checked<'a> {
     pub fn tables(self) -> Tables
         ensures value { λ r. ⌜ r ≡ tables (now (self .entry .bytes)) ⌝ }
         ensures sound { λ r. ⌜ Sound r ⌝ }
+        ensures fair { λ r. ⌜ Fair r ⌝ }
     {
         let Checked { bytes } = self;
         match gather(bytes) {

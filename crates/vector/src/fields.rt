@@ -1,20 +1,25 @@
-// The fields of a record's body, from the left. Each is in its range, or refused at its first byte.
-ghost use mathlib.Core.Bool.{true};
+// Single fields of a record's body. Each is in its range, or refused at its first byte.
 ghost use mathlib.Core.Path.{_≡_};
-ghost use Prim.Native.Nat.{_+_, _*_, _≤_, _<_, _^_};
-ghost use lib.ListN.{length};
+ghost use Prim.Native.Nat.{_+_, _*_, _<_, _≤_};
 ghost use Rattle.vector.specs.Out.{out};
 ghost use Rattle.vector.specs.Reasons.{fieldReason};
-ghost use Rattle.vector.specs.Frames.{suits};
-ghost use Rattle.vector.specs.Fields.{saidOf, within, existing, classOf, headerOf, partitionOf, planOf, slotOf, saidBy};
+ghost use Rattle.vector.specs.Fields.{within, existing, classOf, channelKindOf, deepest, directionNumber, directed, hasBit, masked, scopeOf, eventOf, actionOf, flagOf};
 use crate::fault::FieldFault;
 use crate::frame::word;
-use crate::record::Kind;
-use crate::record::NameIn;
-use crate::record::Record;
+use crate::record::Scope;
+use crate::tables::Action;
+use crate::tables::ChannelKind;
 use crate::tables::Class;
+use crate::tables::Direction;
 
-fn in_range(value: u32, low: u32, high: u32, at: usize) -> Result<(), FieldFault>
+/// Four bytes, the low one first.
+pub(crate) fn long(a: u8, b: u8, c: u8, d: u8) -> u32
+    ensures { λ r. ⌜ r ≡ (a + 256 * b) + 65536 * (c + 256 * d) ⌝ }
+{
+    word(a, b) as u32 + 65536 * word(c, d) as u32
+}
+
+pub(crate) fn in_range(value: u32, low: u32, high: u32, at: usize) -> Result<(), FieldFault>
     ensures { λ r. ⌜ out fieldReason (λ u. u) r ≡ within low high at value ⌝ }
 {
     if low <= value && value <= high {
@@ -25,7 +30,7 @@ fn in_range(value: u32, low: u32, high: u32, at: usize) -> Result<(), FieldFault
 }
 
 /// A partition's number is below how many there are.
-fn is_there(partition: u8, partitions: u8, at: usize) -> Result<(), FieldFault>
+pub(crate) fn is_there(partition: u8, partitions: u8, at: usize) -> Result<(), FieldFault>
     ensures { λ r. ⌜ out fieldReason (λ u. u) r ≡ existing partitions at partition ⌝ }
 {
     if partition < partitions {
@@ -35,7 +40,7 @@ fn is_there(partition: u8, partitions: u8, at: usize) -> Result<(), FieldFault>
     }
 }
 
-fn class_by(number: u8, at: usize) -> Result<Class, FieldFault>
+pub(crate) fn class_by(number: u8, at: usize) -> Result<Class, FieldFault>
     ensures { λ r. ⌜ out fieldReason (λ c. c) r ≡ classOf at number ⌝ }
 {
     match number {
@@ -45,92 +50,113 @@ fn class_by(number: u8, at: usize) -> Result<Class, FieldFault>
     }
 }
 
-fn long(a: u8, b: u8, c: u8, d: u8) -> u32
-    ensures { λ r. ⌜ r ≡ (a + 256 * b) + 65536 * (c + 256 * d) ⌝ }
+pub(crate) fn channel_kind_by(number: u8, at: usize) -> Result<ChannelKind, FieldFault>
+    ensures { λ r. ⌜ out fieldReason (λ k. k) r ≡ channelKindOf at number ⌝ }
 {
-    word(a, b) as u32 + 65536 * word(c, d) as u32
+    match number {
+        0 => Ok(ChannelKind::Sampling),
+        1 => Ok(ChannelKind::Queuing),
+        _ => Err(FieldFault::OutOfRange { at }),
+    }
 }
 
-fn header<'a>(body: &'a [u8], at: usize) -> Result<Record<'a>, FieldFault>
-    requires { ⌜ length (now body) ≡ 2 ⌝ ∗ ⌜ at + 2 < 2 ^ 64 ⌝ }
-    ensures { λ r. ⌜ out fieldReason saidOf r ≡ headerOf at (now (body .entry)) ⌝ }
-{
-    let [partitions, plans] = body else {
-        unreachable()
-    };
-    in_range(*partitions as u32, 1, 8, at)?;
-    in_range(*plans as u32, 1, 4, at + 1)?;
-    Ok(Record::Header {
-        partitions: *partitions,
-        plans: *plans,
-    })
+impl ChannelKind {
+    /// The most messages that a channel of this kind may hold.
+    pub(crate) fn deepest(self) -> u32
+        ensures { λ r. ⌜ r ≡ deepest self ⌝ }
+    {
+        match self {
+            ChannelKind::Sampling => 1,
+            ChannelKind::Queuing => 8,
+        }
+    }
 }
 
-fn partition<'a>(body: &'a [u8], at: usize) -> Result<Record<'a>, FieldFault>
-    requires { ⌜ 4 ≤ length (now body) ⌝ ∗ ⌜ at + length (now body) < 2 ^ 64 ⌝ }
-    ensures { λ r. ⌜ out fieldReason saidOf r ≡ partitionOf at (now (body .entry)) ⌝ }
-{
-    let [class, s0, s1, name @ ..] = body else {
-        unreachable()
-    };
-    let class = class_by(*class, at)?;
-    let size = word(*s0, *s1);
-    in_range(size as u32, 1, 1024, at + 1)?;
-    Ok(Record::Partition {
-        class,
-        size,
-        name: NameIn {
-            bytes: name,
-            at: at + 3,
-        },
-    })
+impl Direction {
+    fn number(self) -> u8
+        ensures { λ r. ⌜ r ≡ directionNumber self ⌝ }
+    {
+        match self {
+            Direction::Source => 0,
+            Direction::Destination => 1,
+        }
+    }
 }
 
-fn plan<'a>(body: &'a [u8], at: usize) -> Result<Record<'a>, FieldFault>
-    requires { ⌜ length (now body) ≡ 4 ⌝ }
-    ensures { λ r. ⌜ out fieldReason saidOf r ≡ planOf at (now (body .entry)) ⌝ }
+/// The number is that of the direction that a port has to have.
+pub(crate) fn is_direction(number: u8, direction: Direction, at: usize) -> Result<(), FieldFault>
+    ensures { λ r. ⌜ out fieldReason (λ u. u) r ≡ directed direction at number ⌝ }
 {
-    let [f0, f1, f2, f3] = body else {
-        unreachable()
-    };
-    let frame = long(*f0, *f1, *f2, *f3);
-    in_range(frame, 1, 1_000_000, at)?;
-    Ok(Record::Plan { frame })
+    if number == direction.number() {
+        Ok(())
+    } else {
+        Err(FieldFault::OutOfRange { at })
+    }
 }
 
-fn slot<'a>(body: &'a [u8], at: usize, partitions: u8) -> Result<Record<'a>, FieldFault>
-    requires { ⌜ length (now body) ≡ 9 ⌝ ∗ ⌜ at + 9 < 2 ^ 64 ⌝ }
-    ensures { λ r. ⌜ out fieldReason saidOf r ≡ slotOf partitions at (now (body .entry)) ⌝ }
+fn has_bit(mask: u8, bit: u8) -> bool
+    requires { ⌜ bit < 8 ⌝ }
+    ensures { λ r. ⌜ r ≡ hasBit mask bit ⌝ }
 {
-    let [partition, s0, s1, s2, s3, d0, d1, d2, d3] = body else {
-        unreachable()
-    };
-    is_there(*partition, partitions, at)?;
-    let start = long(*s0, *s1, *s2, *s3);
-    in_range(start, 0, 999_999, at + 1)?;
-    let duration = long(*d0, *d1, *d2, *d3);
-    in_range(duration, 1, 1_000_000, at + 5)?;
-    Ok(Record::Slot {
-        partition: *partition,
-        start,
-        duration,
-    })
+    (mask >> bit) % 2 == 1
 }
 
-/// What a body of this kind says, where there are so many partitions.
-pub(crate) fn read_body<'a>(
-    kind: Kind,
-    body: &'a [u8],
-    at: usize,
-    partitions: u8,
-) -> Result<Record<'a>, FieldFault>
-    requires { ⌜ suits kind (length (now body)) ≡ true ⌝ ∗ ⌜ at + length (now body) < 2 ^ 64 ⌝ }
-    ensures { λ r. ⌜ out fieldReason saidOf r ≡ saidBy kind partitions at (now (body .entry)) ⌝ }
+/// A mask names existing partitions, and not the source.
+pub(crate) fn is_mask(mask: u8, source: u8, partitions: u8, at: usize) -> Result<(), FieldFault>
+    requires { ⌜ source < partitions ⌝ ∗ ⌜ partitions ≤ 8 ⌝ }
+    ensures { λ r. ⌜ out fieldReason (λ u. u) r ≡ masked partitions source at mask ⌝ }
 {
-    match kind {
-        Kind::Header => header(body, at),
-        Kind::Partition => partition(body, at),
-        Kind::Plan => plan(body, at),
-        Kind::Slot => slot(body, at, partitions),
+    if (mask as u16) >> partitions == 0 && !has_bit(mask, source) {
+        Ok(())
+    } else {
+        Err(FieldFault::OutOfRange { at })
+    }
+}
+
+/// The scope of a partition that is there, or 255 for the system.
+pub(crate) fn scope_by(number: u8, partitions: u8, at: usize) -> Result<Scope, FieldFault>
+    ensures { λ r. ⌜ out fieldReason (λ s. s) r ≡ scopeOf partitions at number ⌝ }
+{
+    if number < partitions {
+        Ok(Scope::Partition(number))
+    } else if number == 255 {
+        Ok(Scope::System)
+    } else {
+        Err(FieldFault::OutOfRange { at })
+    }
+}
+
+/// The event is one of the scope's.
+pub(crate) fn is_event(event: u8, scope: Scope, at: usize) -> Result<(), FieldFault>
+    ensures { λ r. ⌜ out fieldReason (λ u. u) r ≡ eventOf scope at event ⌝ }
+{
+    match scope {
+        Scope::Partition(_) => in_range(event as u32, 0, 7, at),
+        Scope::System => in_range(event as u32, 8, 11, at),
+    }
+}
+
+/// The action of this number, if the scope has it: the system cannot be signalled or suspended.
+pub(crate) fn action_by(number: u8, scope: Scope, at: usize) -> Result<Action, FieldFault>
+    ensures { λ r. ⌜ out fieldReason (λ a. a) r ≡ actionOf scope at number ⌝ }
+{
+    match (number, scope) {
+        (0, _) => Ok(Action::Ignore),
+        (1, Scope::Partition(_)) => Ok(Action::Signal),
+        (2, Scope::Partition(_)) => Ok(Action::Suspend),
+        (3, _) => Ok(Action::Halt),
+        (4, _) => Ok(Action::WarmReset),
+        (5, _) => Ok(Action::ColdReset),
+        _ => Err(FieldFault::OutOfRange { at }),
+    }
+}
+
+pub(crate) fn flag_by(number: u8, at: usize) -> Result<bool, FieldFault>
+    ensures { λ r. ⌜ out fieldReason (λ b. b) r ≡ flagOf at number ⌝ }
+{
+    match number {
+        0 => Ok(false),
+        1 => Ok(true),
+        _ => Err(FieldFault::OutOfRange { at }),
     }
 }

@@ -22,6 +22,11 @@ fn known(number: u16, at: usize) -> Result<Kind, FrameFault>
         2 => Ok(Kind::Partition),
         3 => Ok(Kind::Plan),
         4 => Ok(Kind::Slot),
+        5 => Ok(Kind::Channel),
+        6 => Ok(Kind::Port),
+        7 => Ok(Kind::Ipvi),
+        8 => Ok(Kind::Line),
+        9 => Ok(Kind::Action),
         _ => Err(FrameFault::UnknownKind { at }),
     }
 }
@@ -35,6 +40,11 @@ impl Kind {
             Kind::Partition => 4 <= length && length <= 19,
             Kind::Plan => length == 4,
             Kind::Slot => length == 9,
+            Kind::Channel => length == 4,
+            Kind::Port => 3 <= length && length <= 18,
+            Kind::Ipvi => length == 3,
+            Kind::Line => length == 2,
+            Kind::Action => length == 4,
         }
     }
 }

@@ -8,13 +8,17 @@ use crate::fault::Refusal;
 use crate::scan::gather;
 use crate::tables::Tables;
 
+pub(crate) mod bodies;
 pub mod checked;
+pub mod export;
 pub mod fault;
 pub(crate) mod fields;
 pub(crate) mod frame;
 pub(crate) mod join;
 pub(crate) mod names;
+pub mod reader;
 pub mod record;
+pub mod records;
 pub mod refusal;
 pub(crate) mod rows;
 pub(crate) mod scan;

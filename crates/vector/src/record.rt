@@ -1,5 +1,8 @@
 // The records of a vector.
+use crate::tables::Action;
+use crate::tables::ChannelKind;
 use crate::tables::Class;
+use crate::tables::Direction;
 
 #[derive(Clone, Copy)]
 pub enum Kind {
@@ -7,6 +10,18 @@ pub enum Kind {
     Partition,
     Plan,
     Slot,
+    Channel,
+    Port,
+    Ipvi,
+    Line,
+    Action,
+}
+
+/// Whose fault events an action is for.
+#[derive(Clone, Copy)]
+pub enum Scope {
+    Partition(u8),
+    System,
 }
 
 /// A name as a part of the vector, and the place of its first byte.
@@ -34,6 +49,31 @@ pub enum Record<'a> {
         partition: u8,
         start: u32,
         duration: u32,
+    },
+    Channel {
+        kind: ChannelKind,
+        longest: u16,
+        depth: u8,
+    },
+    Port {
+        partition: u8,
+        direction: Direction,
+        name: NameIn<'a>,
+    },
+    Ipvi {
+        number: u8,
+        source: u8,
+        mask: u8,
+    },
+    Line {
+        line: u8,
+        partition: u8,
+    },
+    Action {
+        scope: Scope,
+        event: u8,
+        action: Action,
+        log: bool,
     },
 }
 

@@ -1,15 +1,21 @@
 // The tables before any record, and with one more row.
 ghost use mathlib.Core.Path.{_≡_};
-ghost use Prim.Native.Nat.{_<_, _≤_};
+ghost use Prim.Native.Nat.{_<_, _≤_, _-_};
 ghost use Rattle.vector.specs.Blank.{defaults, systemDefaults};
-ghost use Rattle.vector.specs.Rows.{rowOf, planWith, blank, openPlan, addPartition, addPlan, addSlot, placed, endOf};
+ghost use Rattle.vector.specs.Rows.{noName, rowOf, planWith, placed, endOf, blank, openPlan, openChannel, addPartition, addPlan, addSlot, addChannel, addPort, addLink, addLine, addResponse, addSystemResponse};
 use crate::tables::Action;
+use crate::tables::Channel;
+use crate::tables::ChannelKind;
+use crate::tables::Channels;
 use crate::tables::Class;
+use crate::tables::Direction;
 use crate::tables::Name;
 use crate::tables::PartitionRow;
 use crate::tables::Partitions;
 use crate::tables::Plan;
 use crate::tables::Plans;
+use crate::tables::Port;
+use crate::tables::Ports;
 use crate::tables::Response;
 use crate::tables::Slot;
 use crate::tables::Tables;
@@ -59,8 +65,19 @@ fn default_system_responses() -> [Response; 4]
     [ignore, ignore, reset, ignore]
 }
 
+impl Name {
+    fn none() -> Name
+        ensures { λ r. ⌜ r ≡ noName ⌝ }
+    {
+        Name {
+            length: 0,
+            bytes: [0; 16],
+        }
+    }
+}
+
 impl PartitionRow {
-    /// A partition with the responses that hold where the vector says nothing.
+    /// A partition with the responses that hold where the vector says nothing, and no links.
     pub(crate) fn new(class: Class, size: u16, name: Name) -> PartitionRow
         ensures { λ r. ⌜ r ≡ rowOf class size name ⌝ }
     {
@@ -69,6 +86,7 @@ impl PartitionRow {
             size,
             name,
             responses: default_responses(),
+            links: [None; 8],
         }
     }
 }
@@ -115,11 +133,19 @@ impl Tables {
     pub(crate) fn blank() -> Tables
         ensures { λ r. ⌜ r ≡ blank ⌝ }
     {
-        let name = Name {
-            length: 0,
-            bytes: [0; 16],
+        let row = PartitionRow::new(Class::Standard, 0, Name::none());
+        let channel = Channel {
+            kind: ChannelKind::Sampling,
+            longest: 0,
+            depth: 0,
+            ports: 0,
         };
-        let row = PartitionRow::new(Class::Standard, 0, name);
+        let port = Port {
+            partition: 0,
+            channel: 0,
+            direction: Direction::Source,
+            name: Name::none(),
+        };
         Tables {
             partitions: Partitions {
                 count: 0,
@@ -129,6 +155,15 @@ impl Tables {
                 count: 0,
                 rows: [Plan::new(0); 4],
             },
+            channels: Channels {
+                count: 0,
+                rows: [channel; 8],
+            },
+            ports: Ports {
+                count: 0,
+                rows: [port; 32],
+            },
+            lines: [None; 16],
             system: default_system_responses(),
         }
     }
@@ -160,6 +195,70 @@ impl Tables {
     {
         let i = self.plans.count - 1;
         self.plans.rows[i] = self.plans.rows[i].with_slot(slot);
+        self
+    }
+
+    pub(crate) fn with_channel(mut self, channel: Channel) -> Tables
+        requires { ⌜ self .channels .count < 8 ⌝ }
+        ensures { λ r. ⌜ r ≡ addChannel channel self ⌝ }
+    {
+        let i = self.channels.count;
+        self.channels.rows[i] = channel;
+        self.channels.count = i + 1;
+        self
+    }
+
+    /// The channel that was added last; while there is none, an empty row.
+    pub(crate) fn open_channel(&self) -> Channel
+        requires { ⌜ now self .channels .count ≤ 8 ⌝ }
+        ensures { λ r. ⌜ r ≡ openChannel (now (self .entry)) ⌝ }
+    {
+        self.channels.rows[self.channels.count.saturating_sub(1)]
+    }
+
+    /// A port of the channel that was added last.
+    pub(crate) fn with_port(mut self, port: Port) -> Tables
+        requires { ⌜ 1 ≤ self .channels .count ⌝ ∗ ⌜ self .channels .count ≤ 8 ⌝ ∗ ⌜ self .ports .count < 32 ⌝ ∗ ⌜ openChannel self .ports ≤ self .ports .count ⌝ }
+        ensures { λ r. ⌜ r ≡ addPort port self ⌝ }
+    {
+        let i = self.ports.count;
+        self.channels.rows[self.channels.count - 1].ports += 1;
+        self.ports.rows[i] = port;
+        self.ports.count = i + 1;
+        self
+    }
+
+    pub(crate) fn with_link(mut self, number: u8, source: u8, mask: u8) -> Tables
+        requires { ⌜ number < 8 ⌝ ∗ ⌜ source < 8 ⌝ }
+        ensures { λ r. ⌜ r ≡ addLink number source mask self ⌝ }
+    {
+        self.partitions.rows[source as usize].links[number as usize] = Some(mask);
+        self
+    }
+
+    pub(crate) fn with_line(mut self, line: u8, partition: u8) -> Tables
+        requires { ⌜ line < 16 ⌝ }
+        ensures { λ r. ⌜ r ≡ addLine line partition self ⌝ }
+    {
+        self.lines[line as usize] = Some(partition);
+        self
+    }
+
+    pub(crate) fn with_response(mut self, partition: u8, event: u8, response: Response) -> Tables
+        requires { ⌜ partition < 8 ⌝ ∗ ⌜ event < 8 ⌝ }
+        ensures { λ r. ⌜ r ≡ addResponse partition event response self ⌝ }
+    {
+        self.partitions
+            .rows[partition as usize]
+            .responses[event as usize] = response;
+        self
+    }
+
+    pub(crate) fn with_system_response(mut self, event: u8, response: Response) -> Tables
+        requires { ⌜ 8 ≤ event ⌝ ∗ ⌜ event < 12 ⌝ }
+        ensures { λ r. ⌜ r ≡ addSystemResponse event response self ⌝ }
+    {
+        self.system[event as usize - 8] = response;
         self
     }
 }

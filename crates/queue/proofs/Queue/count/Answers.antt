@@ -1,7 +1,10 @@
-use mathlib.Core.Path.{sym, _∙_}
 use native.Mathlib.Omega.{arith}
 use Rattle.queue.proofs.Rings.{length-items}
 use Rattle.queue.proofs.Queue.count.Needs as need
 
 pub returns : need.returns
-returns g c = omega (arith, c .min .ensures, length-items (c .args .self .now .head) (c .args .self .now .count) (c .args .cells .now) (c .pre .sound .1))
+returns g c =
+    record
+    { is = omega (arith, c .min .ensures, length-items (c .args .self .now .head) (c .args .self .now .count) (c .args .cells .now) (c .pre .sound .1))
+    ; few = omega (arith, c .min .ensures)
+    }

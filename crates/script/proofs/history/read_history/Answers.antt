@@ -1,11 +1,10 @@
-use mathlib.Core.Path.{_≡_, sym, ap, _∙_}
+use mathlib.Core.Path.{sym, _∙_}
 use Prim.Native.Nat.{_<_}
 use native.Mathlib.Omega.{arith}
-use borrow.Author.Needs.{needs}
 use borrow.Author.Tests.{true-eqb, false-eqb}
 use lib.ListN.{length}
 use Rattle.std.specs.Of.Vec.{vec-items}
-use Rattle.script.proofs.Records.{joined, joined-none, at-end, malformed, next, shorter}
+use Rattle.script.proofs.Records.{joined-none, at-end, malformed, next, shorter}
 use Rattle.script.proofs.history.read_history.Needs as need
 
 pub loop-rest-holds : need.loop-rest-holds

@@ -1,5 +1,5 @@
-use mathlib.Core.Path.{_≡_, _∙_, sym}
-use mathlib.Core.List.{List, _∷_, _++_}
+use mathlib.Core.Path.{_≡_, _∙_}
+use mathlib.Core.List.{_∷_, _++_}
 use Prim.Native.Nat.{ℕ}
 use lib.IntN.{ℤ}
 use mir.Syntax.{w32}
@@ -11,6 +11,7 @@ use Rattle.machine.specs.Answers.{Reply}
 use Rattle.script.specs.Lines.{spaced}
 use Rattle.script.proofs.line.LineDisplay.fmt.Needs as need
 
+-- what is written of the three numbers is the line
 spaced-is : (r : Reply) (z : ℤ) (v : ℕ × ℕ) → z ≡ r .code → v ≡ (r .a, r .b) → signed z ++ (32 ∷ decimal (v .0) ++ (32 ∷ decimal (v .1))) ≡ spaced r
 spaced-is r z v e f = rw (e, f)
 

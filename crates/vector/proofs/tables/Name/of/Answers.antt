@@ -1,8 +1,6 @@
-use mathlib.Core.Path.{_≡_, ap, _∙_}
-use Prim.Native.Nat.{_<_}
-use lib.ListN.{set, getD, length}
+use mathlib.Core.Path.{ap, _∙_}
+use lib.ListN.{set, getD}
 use native.Mathlib.Omega.{arith}
-use Rattle.vector.specs.declared.tables.Name.{Name}
 use Rattle.vector.proofs.Texts.{partly-more, partly-all}
 use Rattle.vector.proofs.tables.Name.of.Needs as need
 
