@@ -19,7 +19,7 @@ use Rattle.kernel.specs.Rings.{lettersOf, views, chansOf, Ring, Rings}
 
 -- one ring changed is one list changed
 pub views-set : (qs : List Queue) (cs : List (List Message)) (i : ℕ) (q : Queue) (c : List Message) →
-  views (set qs i q) (set cs i c) ≡ set (views qs cs) i (lettersOf q c)
+    views (set qs i q) (set cs i c) ≡ set (views qs cs) i (lettersOf q c)
 unfolding views
 views-set [] cs i q c = refl
 views-set (x ∷ qs) [] zero q c = refl
@@ -47,13 +47,13 @@ views-at (q ∷ qs) (c ∷ cs) (suc i) = views-at qs cs i
 
 -- the rings stay sound where a sound one takes a place
 pub rings-set : (h : Channels) (i : ℕ) (q : Queue) (c : List Message) → i < length (h .queues) → i < length (h .cells) →
-  Rings h → Ring q c → Rings (record { cells = set (h .cells) i c; queues = set (h .queues) i q })
+    Rings h → Ring q c → Rings (record { cells = set (h .cells) i c; queues = set (h .queues) i q })
 rings-set h i q c l m all one =
     λ j b. (⊎-elim
-        (λ z. subst (λ j. Ring (getD (set (h .queues) i q) j empty) (getD (set (h .cells) i c) j [])) (sym z)
-                (rw (getD-set-same (h .queues) i q empty l, getD-set-same (h .cells) i c [] m) one))
-        (λ z. rw (getD-set-other (h .queues) i j q empty z, getD-set-other (h .cells) i j c [] z) (all j b))
-        (cases-eq j i))
+    (λ z. subst (λ j. Ring (getD (set (h .queues) i q) j empty) (getD (set (h .cells) i c) j [])) (sym z)
+    (rw (getD-set-same (h .queues) i q empty l, getD-set-same (h .cells) i c [] m) one))
+    (λ z. rw (getD-set-other (h .queues) i j q empty z, getD-set-other (h .cells) i j c [] z) (all j b))
+    (cases-eq j i))
 
 pub fresh-rings : (q : Queue) (c : List Message) → q ≡ empty → length c ≡ 8 → Rings (record { cells = replicate 8 c; queues = replicate 8 q })
 fresh-rings q c e l i b =

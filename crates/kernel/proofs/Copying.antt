@@ -23,7 +23,7 @@ same-some false x y e = absurd (let z : _≡_ {A = ℕ} 0 1 = cc in omega arith)
 
 -- one byte more has been loaded
 pub load-more : (ms : List (List ℕ)) (i at k byte : ℕ) (into : List ℕ) → k < length into → at + k < length (area ms i) →
-  Some byte ≡ loaded ms i (at + k) → take k into ≡ part (area ms i) at k → take (k + 1) (set into k byte) ≡ part (area ms i) at (k + 1)
+    Some byte ≡ loaded ms i (at + k) → take k into ≡ part (area ms i) at k → take (k + 1) (set into k byte) ≡ part (area ms i) at (k + 1)
 load-more ms i at k byte into h l e f =
     let a = area ms i in
     let b = same-some (ltb (at + k) (length a)) byte (getD a (at + k) 0) e in
@@ -52,7 +52,7 @@ patched-more a bs o k h l =
     let n : length (take o a) ≡ o = length-take-le o a (omega arith) in
     let m : length (take k bs) ≡ k = length-take-le k bs (omega arith) in
     let d : drop (o + length (take k bs)) a ≡ getD a (o + k) 0 ∷ drop (o + k + 1) a =
-        ap (λ j. drop (o + j) a) m ∙ drop-more a (o + k) 0 l in
+    ap (λ j. drop (o + j) a) m ∙ drop-more a (o + k) 0 l in
     let g : o ≤ o + k = omega arith in
     let p : o + k - o ≡ length (take k bs) = omega arith in
     let q : o + k + 1 ≡ o + length (take (k + 1) bs) = omega (arith, length-take-le (k + 1) bs (omega arith)) in
@@ -76,7 +76,7 @@ length-patched a bs o h =
     omega (arith, length-append (take o a) (bs ++ drop (o + length bs) a), length-append bs (drop (o + length bs) a), length-take o a, length-drop (o + length bs) a)
 
 pub fill-more : (ms ns : List (List ℕ)) (i o k : ℕ) (bs : List ℕ) → k < length bs → o + k < length (area ms i) → ns ≡ filled ms i o (take k bs) →
-  stored ns i (o + k) (getD bs k 0) ≡ filled ms i o (take (k + 1) bs)
+    stored ns i (o + k) (getD bs k 0) ≡ filled ms i o (take (k + 1) bs)
 fill-more ms ns i o k bs h l e =
     let a = area ms i in
     let p = patched a o (take k bs) in

@@ -12,7 +12,7 @@ use Rattle.machine.specs.Management.{gaps}
 module _ (ss : List Slot) (n f : ℕ) where
   -- the gap before the next slot, and those after it
   pub gaps-more : (i e : ℕ) → i < n → i < length ss →
-    gaps e (drop i (take n ss)) f ≡ (getD ss i slot0 .start - e) + gaps (getD ss i slot0 .start + getD ss i slot0 .duration) (drop (i + 1) (take n ss)) f
+      gaps e (drop i (take n ss)) f ≡ (getD ss i slot0 .start - e) + gaps (getD ss i slot0 .start + getD ss i slot0 .duration) (drop (i + 1) (take n ss)) f
   unfolding gaps
   gaps-more i e h l =
       let m : i < length (take n ss) = omega (arith, length-take n ss) in

@@ -3,14 +3,17 @@ use Prim.Native.Nat.{ℕ}
 use mathlib.Core.Path.{_≡_}
 use mathlib.Core.Bool.{Bool, true, false, cond}
 use mathlib.Core.List.{List, [], _∷_}
+use lib.IntN.{negsuc}
 use lib.ListN.{length}
 use Rattle.vector.specs.declared.tables.Tables.{Tables}
 use Rattle.vector.specs.Names.{any}
 use Rattle.machine.specs.declared.event.Event.{Event}
 use Rattle.machine.specs.Answers.{Reply}
 use Rattle.machine.specs.Questions.{exists, isSystem}
-use Rattle.machine.specs.State.{State, area}
-use Rattle.machine.specs.Step.{boot, fits}
+use Rattle.machine.specs.State.{Core, State, area}
+use Rattle.machine.specs.Step.{boot, fits, running}
+use Rattle.machine.specs.Laws.{Bounded, Single, Scheduled, replans}
+use Rattle.kernel.specs.World.{World}
 use Rattle.machine.specs.Runs.{Line, after}
 use Rattle.machine.specs.Circle.{Circle}
 use Rattle.machine.specs.Isolation.{strike, isOf, sight, answersTo, sheet}
@@ -38,6 +41,21 @@ Isolating k ms h ls s =
 -- save after a system partition's cold reset
 abbrev pub Apart : Tables → Event → List (List ℕ) → List (List ℕ) → Type 0
 Apart k e ms ns = (q r : ℕ) → isOf k q e ≡ true → isColdReset k e ≡ false → (r ≡ q → ⊥) → area ns r ≡ area ms r
+
+-- an event that was refused left everything as it was, the areas too
+abbrev pub Unmoved : Reply → World → World → Type 0
+Unmoved r w v = (n : ℕ) → r .code ≡ negsuc n → v ≡ w
+
+-- an event left the plan as it was, unless a frame ended or the system was reset
+abbrev pub Planned : Event → World → World → Type 0
+Planned e w v = replans (w .tables) (w .state) e ≡ false → v .state .core .clock .plan ≡ w .state .core .clock .plan
+
+-- what holds of every system that was run: nothing is pending for a HALTED partition, log and channels keep within their bounds,
+-- and at most one partition is on the processor, READY and with its slot running
+pub record Lawful (k : Tables) (x : Core) : Type 0 where
+  pub bounded : Bounded k x
+  pub single : Single k x
+  pub scheduled : (q : ℕ) → running k x q ≡ true → Scheduled k x q
 
 -- a history that found the areas ms and left ns: an area that none of its events reaches is as it was
 abbrev pub Preserving : Tables → List Event → List (List ℕ) → List (List ℕ) → Type 0

@@ -22,7 +22,10 @@ impl Channels {
         ensures sound { λ r. ⌜ Rings r ⌝ }
         ensures is { λ r. ⌜ chansOf r ≡ replicate 8 [] ⌝ }
     {
-        Channels { cells: [[Message::blank(); 8]; 8], queues: [Queue::new(); 8] }
+        Channels {
+            cells: [[Message::blank(); 8]; 8],
+            queues: [Queue::new(); 8],
+        }
     }
 
     /// How many messages wait.

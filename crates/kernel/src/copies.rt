@@ -42,7 +42,11 @@ pub(crate) fn load_message<B: Board>(board: &B, i: usize, at: u32, n: u32, time:
 {
     let mut bytes = [0; LONGEST];
     load_into(board, i, at as usize, &mut bytes[0..n as usize]);
-    Message { bytes, length: n as usize, time }
+    Message {
+        bytes,
+        length: n as usize,
+        time,
+    }
 }
 
 /// The name of n bytes in a range.
@@ -53,7 +57,10 @@ pub(crate) fn load_name<B: Board>(board: &B, i: usize, at: u32, n: u32) -> Name
 {
     let mut bytes = [0; 16];
     load_into(board, i, at as usize, &mut bytes[0..n as usize]);
-    Name { length: n as usize, bytes }
+    Name {
+        length: n as usize,
+        bytes,
+    }
 }
 
 /// Writes a message into an area.

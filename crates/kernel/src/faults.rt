@@ -16,9 +16,9 @@ use crate::monitor::Decision;
 use crate::monitor::Scope;
 use crate::monitor::decide;
 use crate::monitor::decide_whole;
-use lookup::is_system;
 use crate::whole::System;
 use board::Board;
+use lookup::is_system;
 use machine::answer::Answer;
 use machine::answer::Refusal;
 use machine::clock::Clock;
@@ -174,7 +174,10 @@ impl<B: Board> System<B> {
         let Some(entry) = self.core.log.take() else {
             return Answer::Refused(Refusal::NotAvailable);
         };
-        Answer::Logged { left: self.core.log.count(), entry }
+        Answer::Logged {
+            left: self.core.log.count(),
+            entry,
+        }
     }
 
     pub(crate) fn reset_system(&mut self, q: u8, args: Args) -> Answer

@@ -3,7 +3,7 @@ ghost use mathlib.Core.Path.{_≡_};
 ghost use Rattle.vector.specs.Reading.{tables as tablesOf};
 ghost use Rattle.machine.specs.Step.{boot as bootOf};
 ghost use Rattle.machine.specs.Runs.{linesOf, eventsOf, lines};
-ghost use Rattle.kernel.specs.Promises.{Isolating, Preserving};
+ghost use Rattle.kernel.specs.Promises.{Isolating, Lawful, Preserving};
 ghost use Rattle.kernel.specs.World.{worldOf, ended};
 use crate::whole::System;
 use board::Board;
@@ -16,6 +16,7 @@ pub fn run<B: Board>(vector: Checked, board: B, history: &mut [Exchange]) -> Sys
     ensures told { λ _. ⌜ linesOf (now (history .exit)) ≡ lines (tablesOf (now (vector .entry .bytes))) (bootOf (tablesOf (now (vector .entry .bytes))) (areas board)) (eventsOf (now (history .entry))) ⌝ }
     ensures isolated { λ r. ⌜ Isolating (tablesOf (now (vector .entry .bytes))) (areas board) (eventsOf (now (history .entry))) (linesOf (now (history .exit))) (worldOf areas r .state) ⌝ }
     ensures preserved { λ r. ⌜ Preserving (tablesOf (now (vector .entry .bytes))) (eventsOf (now (history .entry))) (areas board) (areas (r .board)) ⌝ }
+    ensures lawful { λ r. ⌜ Lawful (tablesOf (now (vector .entry .bytes))) (worldOf areas r .state .core) ⌝ }
 {
     let mut system = System::boot(vector, board);
     for i in 0..history.len() {

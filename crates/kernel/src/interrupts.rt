@@ -7,10 +7,10 @@ ghost use Rattle.machine.specs.Partitions.{bit, signalled};
 ghost use Rattle.machine.specs.Interrupts.{raised, raiseIpvi, getIrqs, setIrqMask, clearIrqMask, clearIrqPending};
 ghost use Rattle.machine.specs.Interrupts.{line as lineOf};
 ghost use Rattle.kernel.specs.World.{coreOf, worldOf, gives, settled, performed};
-use lookup::mask_of;
-use lookup::owner_of;
 use crate::whole::System;
 use board::Board;
+use lookup::mask_of;
+use lookup::owner_of;
 use machine::answer::Answer;
 use machine::answer::Refusal;
 use machine::event::Args;
@@ -64,7 +64,10 @@ impl<B: Board> System<B> {
         ensures { λ r. ⌜ gives (worldOf areas (now (self .exit))) (replyOf r) ≡ performed getIrqs q args (worldOf areas (now (self .entry))) ⌝ }
     {
         let partition = self.core.parts[q as usize];
-        Answer::Words { pending: partition.pending, mask: partition.mask }
+        Answer::Words {
+            pending: partition.pending,
+            mask: partition.mask,
+        }
     }
 
     pub(crate) fn set_irq_mask(&mut self, q: u8, args: Args) -> Answer

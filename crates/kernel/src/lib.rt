@@ -13,5 +13,6 @@ mod ports;
 mod schedule;
 mod system;
 mod whole;
+
 pub use history::run;
 pub use whole::System;

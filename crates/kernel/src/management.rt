@@ -7,11 +7,11 @@ ghost use Rattle.machine.specs.Questions.{plan, slotsOf};
 ghost use Rattle.kernel.specs.World.{worldOf, gives, performed};
 use crate::areas::wipe;
 use crate::schedule::slotless;
+use crate::whole::System;
+use board::Board;
 use lookup::is_managing;
 use lookup::is_system;
 use lookup::is_there;
-use crate::whole::System;
-use board::Board;
 use machine::answer::Answer;
 use machine::answer::Refusal;
 use machine::clock::Time;
@@ -148,6 +148,10 @@ impl<B: Board> System<B> {
         requires { ⌜ q < 8 ⌝ }
         ensures { λ r. ⌜ gives (worldOf areas (now (self .exit))) (replyOf r) ≡ performed getPlanStatus q args (worldOf areas (now (self .entry))) ⌝ }
     {
-        Answer::Plans { plan: self.core.clock.plan, next: self.core.clock.next, slotless: self.slotless() }
+        Answer::Plans {
+            plan: self.core.clock.plan,
+            next: self.core.clock.next,
+            slotless: self.slotless(),
+        }
     }
 }

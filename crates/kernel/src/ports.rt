@@ -18,12 +18,12 @@ use crate::copies::is_ranged;
 use crate::copies::load_message;
 use crate::copies::load_name;
 use crate::copies::store_message;
+use crate::whole::System;
+use board::Board;
 use lookup::find_port;
 use lookup::is_hearing;
 use lookup::is_owner;
 use lookup::is_source;
-use crate::whole::System;
-use board::Board;
 use machine::answer::Answer;
 use machine::answer::Refusal;
 use machine::event::Args;
@@ -53,7 +53,11 @@ fn alert(tables: &Tables, parts: &mut [Partition; 8], c: u8)
 {
     for i in 0..tables.ports.count {
         let owner = tables.ports.rows[i].partition;
-        tell(&mut parts[owner as usize], i as u8, is_hearing(tables, c, i));
+        tell(
+            &mut parts[owner as usize],
+            i as u8,
+            is_hearing(tables, c, i),
+        );
     }
 }
 
@@ -102,7 +106,9 @@ impl<B: Board> System<B> {
     {
         let channel = self.core.tables.ports.rows[args[0] as usize].channel;
         let longest = self.core.tables.channels.rows[channel as usize].longest;
-        1 <= args[2] && args[2] <= u32::from(longest) && is_ranged(&self.board, q as usize, args[1], args[2])
+        1 <= args[2]
+            && args[2] <= u32::from(longest)
+            && is_ranged(&self.board, q as usize, args[1], args[2])
     }
 
     /// The port's channel.
@@ -167,7 +173,13 @@ impl<B: Board> System<B> {
         if !self.is_sending(args[0]) {
             return Answer::Refused(Refusal::InvalidMode);
         }
-        let message = load_message(&self.board, q as usize, args[1], args[2], self.core.clock.time);
+        let message = load_message(
+            &self.board,
+            q as usize,
+            args[1],
+            args[2],
+            self.core.clock.time,
+        );
         let channel = self.channel_of(args[0]);
         self.core.channels.replace(channel as usize, message);
         alert(&self.core.tables, &mut self.core.parts, channel);
@@ -185,10 +197,18 @@ impl<B: Board> System<B> {
             return Answer::Refused(Refusal::InvalidMode);
         }
         let channel = self.channel_of(args[0]);
-        if self.core.channels.count(channel as usize) >= self.core.tables.channels.rows[channel as usize].depth as usize {
+        if self.core.channels.count(channel as usize)
+            >= self.core.tables.channels.rows[channel as usize].depth as usize
+        {
             return Answer::Refused(Refusal::NotAvailable);
         }
-        let message = load_message(&self.board, q as usize, args[1], args[2], self.core.clock.time);
+        let message = load_message(
+            &self.board,
+            q as usize,
+            args[1],
+            args[2],
+            self.core.clock.time,
+        );
         self.core.channels.append(channel as usize, message);
         alert(&self.core.tables, &mut self.core.parts, channel);
         Answer::Done
@@ -198,7 +218,8 @@ impl<B: Board> System<B> {
         requires { ⌜ q < 8 ⌝ }
         ensures { λ r. ⌜ gives (worldOf areas (now (self .exit))) (replyOf r) ≡ performed readSamplingMessage q args (worldOf areas (now (self .entry))) ⌝ }
     {
-        if !(self.is_usable(q, ChannelKind::Sampling, args[0]) && is_ranged(&self.board, q as usize, args[1], args[2])) {
+        if !(self.is_usable(q, ChannelKind::Sampling, args[0])
+            && is_ranged(&self.board, q as usize, args[1], args[2])) {
             return Answer::Refused(Refusal::InvalidParam);
         }
         if self.is_sending(args[0]) {
@@ -213,14 +234,19 @@ impl<B: Board> System<B> {
             return Answer::Refused(Refusal::InvalidConfig);
         }
         store_message(&message, &mut self.board, q as usize, args[1]);
-        Answer::Received { length: size as u8, time: message.time, left: 0 }
+        Answer::Received {
+            length: size as u8,
+            time: message.time,
+            left: 0,
+        }
     }
 
     pub(crate) fn receive_queuing_message(&mut self, q: u8, args: Args) -> Answer
         requires { ⌜ q < 8 ⌝ }
         ensures { λ r. ⌜ gives (worldOf areas (now (self .exit))) (replyOf r) ≡ performed receiveQueuingMessage q args (worldOf areas (now (self .entry))) ⌝ }
     {
-        if !(self.is_usable(q, ChannelKind::Queuing, args[0]) && is_ranged(&self.board, q as usize, args[1], args[2])) {
+        if !(self.is_usable(q, ChannelKind::Queuing, args[0])
+            && is_ranged(&self.board, q as usize, args[1], args[2])) {
             return Answer::Refused(Refusal::InvalidParam);
         }
         if self.is_sending(args[0]) {
@@ -236,7 +262,11 @@ impl<B: Board> System<B> {
         }
         store_message(&message, &mut self.board, q as usize, args[1]);
         let left = self.core.channels.discard(channel as usize);
-        Answer::Received { length: size as u8, time: message.time, left }
+        Answer::Received {
+            length: size as u8,
+            time: message.time,
+            left,
+        }
     }
 
     pub(crate) fn get_queuing_status(&mut self, q: u8, args: Args) -> Answer

@@ -13,7 +13,7 @@ ghost use Rattle.machine.specs.Calls.{called};
 ghost use Rattle.machine.specs.Calls.{perform as performOf};
 ghost use Rattle.machine.specs.State.{area};
 ghost use Rattle.machine.specs.Step.{running, load, store, tick};
-ghost use Rattle.kernel.specs.Promises.{Apart};
+ghost use Rattle.kernel.specs.Promises.{Apart, Planned, Unmoved};
 ghost use Rattle.kernel.specs.World.{coreOf, worldOf, gives, settled, performed, stepped, booted};
 use crate::areas::is_fitting;
 use crate::channels::Channels;
@@ -183,10 +183,12 @@ impl<B: Board> System<B> {
         self.perform(CALLS[number as usize], q, args)
     }
 
-    /// Takes one event. What belongs to others stays: an event of one partition leaves every other area as it was,
-    /// save a system partition's cold reset.
+    /// Takes one event. A refusal moves nothing, plans switch only where a frame ends or the system is reset, and an event of one
+    /// partition leaves every other area as it was, save a system partition's cold reset.
     pub fn event(&mut self, e: Event) -> Answer
         ensures is { λ r. ⌜ gives (worldOf areas (now (self .exit))) (replyOf r) ≡ stepped e (worldOf areas (now (self .entry))) ⌝ }
+        ensures unmoved { λ r. ⌜ Unmoved (replyOf r) (worldOf areas (now (self .entry))) (worldOf areas (now (self .exit))) ⌝ }
+        ensures planned { λ _. ⌜ Planned e (worldOf areas (now (self .entry))) (worldOf areas (now (self .exit))) ⌝ }
         ensures apart { λ _. ⌜ Apart (now (self .entry) .core .tables) e (areas (now (self .entry) .board)) (areas (now (self .exit) .board)) ⌝ }
     {
         self.handle(e)

@@ -1,6 +1,7 @@
 //! What the core asks of the vector's tables: who manages whom, whose port is which, and who is in whose circle.
 mod rounds;
 mod tables;
+
 pub use rounds::circle;
 pub use tables::find_port;
 pub use tables::is_hearing;

@@ -29,7 +29,9 @@ fn is_feeding(tables: &Tables, i: usize, j: usize) -> bool
 {
     let source = &tables.ports.rows[i];
     let destination = &tables.ports.rows[j];
-    is_source(source.direction) && destination.channel == source.channel && !is_source(destination.direction)
+    is_source(source.direction)
+        && destination.channel == source.channel
+        && !is_source(destination.direction)
 }
 
 /// Whether the mask has the partition.
@@ -59,7 +61,12 @@ fn with_pair(tables: &Tables, i: usize, j: usize, mask: u8) -> u8
     let writer = tables.ports.rows[i].partition;
     let reader = tables.ports.rows[j].partition;
     let feeds = is_feeding(tables, i, j);
-    let queuing = is_queuing(tables.channels.rows[tables.ports.rows[i].channel as usize].kind);
+    let queuing = is_queuing(
+        tables
+            .channels
+            .rows[tables.ports.rows[i].channel as usize]
+            .kind,
+    );
     let more = join(feeds && has(mask, reader), writer, mask);
     join(feeds && queuing && has(more, writer), reader, more)
 }

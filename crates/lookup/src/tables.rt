@@ -74,8 +74,10 @@ fn is_kind(kind: ChannelKind, other: ChannelKind) -> bool
     ensures { λ r. ⌜ r ≡ sameKind kind other ⌝ }
 {
     match (kind, other) {
-        (ChannelKind::Sampling, ChannelKind::Sampling) | (ChannelKind::Queuing, ChannelKind::Queuing) => true,
-        (ChannelKind::Sampling, ChannelKind::Queuing) | (ChannelKind::Queuing, ChannelKind::Sampling) => false,
+        (ChannelKind::Sampling, ChannelKind::Sampling)
+        | (ChannelKind::Queuing, ChannelKind::Queuing) => true,
+        (ChannelKind::Sampling, ChannelKind::Queuing)
+        | (ChannelKind::Queuing, ChannelKind::Sampling) => false,
     }
 }
 

@@ -1,8 +1,8 @@
 -- Two machines that the members of M, who see the channels of C, cannot tell apart.
 use mathlib.Core.Path.{_≡_, refl, sym, ap, _∙_}
 use mathlib.Core.Bool.{Bool, true, false}
-use mathlib.Core.List.{List, [], _∷_}
-use Prim.Native.Nat.{ℕ, zero, suc}
+use mathlib.Core.List.{List, []}
+use Prim.Native.Nat.{ℕ}
 use lib.ListN.{getD, set}
 use Rattle.std.proofs.shelf.Tests.{both-ways}
 use Rattle.vector.specs.declared.tables.Tables.{Tables}
@@ -13,7 +13,7 @@ use Rattle.machine.specs.Answers.{Reply}
 use Rattle.machine.specs.Letters.{Letter}
 use Rattle.machine.specs.Partitions.{nobody}
 use Rattle.machine.specs.Questions.{isSystem}
-use Rattle.machine.specs.State.{Core, Effect, keeps, writes, clears, clearsAll, Out, guard, with-clock, with-parts, with-chan, with-chans, with-log, with-halted, modify}
+use Rattle.machine.specs.State.{Core, Effect, keeps, writes, clears, clearsAll, Out, guard, with-clock, with-parts, with-chan, with-log, with-halted, modify}
 use Rattle.machine.proofs.Agree.{Agree, agree-refl, agree-sym, agree-trans, agree-set, agree-put}
 
 pub record Alike (M C : ℕ → Bool) (x y : Core) : Type 0 where
@@ -46,28 +46,33 @@ module _ (M C : ℕ → Bool) where
 
   pub alike-sym : {x y : Core} → Alike M C x y → Alike M C y x
   alike-sym r =
-      record { clock = sym (r .clock); halted = sym (r .halted)
-             ; parts = agree-sym M nobody (r .parts); chans = agree-sym C [] (r .chans) }
+      record {
+        clock = sym (r .clock);
+        halted = sym (r .halted);
+        parts = agree-sym M nobody (r .parts);
+        chans = agree-sym C [] (r .chans);
+      }
 
   pub alike-trans : {x y z : Core} → Alike M C x y → Alike M C y z → Alike M C x z
   alike-trans r s =
-      record { clock = r .clock ∙ s .clock; halted = r .halted ∙ s .halted
-             ; parts = agree-trans M nobody (r .parts) (s .parts); chans = agree-trans C [] (r .chans) (s .chans) }
+      record {
+        clock = r .clock ∙ s .clock;
+        halted = r .halted ∙ s .halted;
+        parts = agree-trans M nobody (r .parts) (s .parts);
+        chans = agree-trans C [] (r .chans) (s .chans);
+      }
 
   -- one lemma for each way in which an event changes the machine
   pub alike-clock : {x y : Core} {c d : Clock} → Alike M C x y → c ≡ d → Alike M C (with-clock x c) (with-clock y d)
   alike-clock r e = record { clock = e; halted = r .halted; parts = r .parts; chans = r .chans }
 
   pub alike-parts : {x y : Core} {ps rs : List Partition} → Alike M C x y → Agree M nobody ps rs →
-    Alike M C (with-parts x ps) (with-parts y rs)
+      Alike M C (with-parts x ps) (with-parts y rs)
   alike-parts r e = record { clock = r .clock; halted = r .halted; parts = e; chans = r .chans }
 
   pub alike-chan : {x y : Core} → Alike M C x y → (c : ℕ) {ms ns : List Letter} → ms ≡ ns → Alike M C (with-chan x c ms) (with-chan y c ns)
   alike-chan r c {ms} {ns} e =
       record { clock = r .clock; halted = r .halted; parts = r .parts; chans = agree-set C [] (r .chans) c ms ns (λ _. e) }
-
-  pub alike-chans : {x y : Core} → Alike M C x y → (cs : List (List Letter)) → Alike M C (with-chans x cs) (with-chans y cs)
-  alike-chans r cs = record { clock = r .clock; halted = r .halted; parts = r .parts; chans = agree-refl C [] cs }
 
   pub alike-log : {x y : Core} → Alike M C x y → (e f : List Entry) → Alike M C (with-log x e) (with-log y f)
   alike-log r e f = record { clock = r .clock; halted = r .halted; parts = r .parts; chans = r .chans }
@@ -78,8 +83,12 @@ module _ (M C : ℕ → Bool) where
   -- and one for each way in which an outsider's does
   pub chan-out : {x y : Core} → Alike M C x y → (c : ℕ) (ms : List Letter) → C c ≡ false → Alike M C x (with-chan y c ms)
   chan-out {x} {y} r c ms o =
-      record { clock = r .clock; halted = r .halted; parts = r .parts
-             ; chans = agree-trans C [] (r .chans) (agree-put C [] (y .chans) c ms (λ h. absurd (both-ways (C c) o h))) }
+      record {
+        clock = r .clock;
+        halted = r .halted;
+        parts = r .parts;
+        chans = agree-trans C [] (r .chans) (agree-put C [] (y .chans) c ms (λ h. absurd (both-ways (C c) o h)));
+      }
 
   pub parts-out : {x y : Core} {ps : List Partition} → Alike M C x y → Agree M nobody (y .parts) ps → Alike M C x (with-parts y ps)
   parts-out r e = record { clock = r .clock; halted = r .halted; parts = agree-trans M nobody (r .parts) e; chans = r .chans }
@@ -88,7 +97,7 @@ module _ (M C : ℕ → Bool) where
   log-out r e = record { clock = r .clock; halted = r .halted; parts = r .parts; chans = r .chans }
 
   pub agree-modify : {ps rs : List Partition} → Agree M nobody ps rs → (i : ℕ) (f : Partition → Partition) →
-    Agree M nobody (modify ps i f) (modify rs i f)
+      Agree M nobody (modify ps i f) (modify rs i f)
   agree-modify {ps} {rs} r i f = agree-set M nobody r i (f (getD ps i nobody)) (f (getD rs i nobody)) (λ h. ap f (r .at i h))
 
   pub modify-out : (ps : List Partition) (i : ℕ) (f : Partition → Partition) → M i ≡ false → Agree M nobody ps (modify ps i f)
@@ -102,7 +111,7 @@ module _ (M C : ℕ → Bool) where
 
   -- an outsider's event: a guard, nothing done, the own area written, an area cleared
   pub quiet-guard : (x : Core) (b : Bool) {u v : Out} →
-    (b ≡ true → Quiet M C x u) → (b ≡ false → Quiet M C x v) → Quiet M C x (guard b u v)
+      (b ≡ true → Quiet M C x u) → (b ≡ false → Quiet M C x v) → Quiet M C x (guard b u v)
   quiet-guard x true f g = f refl
   quiet-guard x false f g = g refl
 
@@ -118,29 +127,29 @@ module _ (M C : ℕ → Bool) where
 -- a member's event
 module _ (k : Tables) (M C : ℕ → Bool) (q : ℕ) where
   pub matched-guard : (b c : Bool) {u v u′ v′ : Out} → b ≡ c →
-    (b ≡ true → Matched k M C q u u′) → (b ≡ false → Matched k M C q v v′) → Matched k M C q (guard b u v) (guard c u′ v′)
+      (b ≡ true → Matched k M C q u u′) → (b ≡ false → Matched k M C q v v′) → Matched k M C q (guard b u v) (guard c u′ v′)
   matched-guard true true e f g = f refl
   matched-guard false false e f g = g refl
   matched-guard true false e f g = absurd (both-ways true e refl)
   matched-guard false true e f g = absurd (both-ways false refl e)
 
   pub matched-same : {x y : Core} (f : Effect) (r : Reply) → Alike M C x y →
-    Matched k M C q (record { core = x; effect = f; reply = r }) (record { core = y; effect = f; reply = r })
+      Matched k M C q (record { core = x; effect = f; reply = r }) (record { core = y; effect = f; reply = r })
   matched-same f r h = record { core = h; effect = refl; reply = λ _. refl }
 
   pub matched-told : {x y : Core} {f g : Effect} {r s : Reply} → Alike M C x y → f ≡ g → r ≡ s →
-    Matched k M C q (record { core = x; effect = f; reply = r }) (record { core = y; effect = g; reply = s })
+      Matched k M C q (record { core = x; effect = f; reply = r }) (record { core = y; effect = g; reply = s })
   matched-told h e d = record { core = h; effect = e; reply = λ _. d }
 
   -- a system partition may be answered differently on the two sides
   pub matched-system : {x y : Core} (f : Effect) (r s : Reply) → isSystem k q ≡ true → Alike M C x y →
-    Matched k M C q (record { core = x; effect = f; reply = r }) (record { core = y; effect = f; reply = s })
+      Matched k M C q (record { core = x; effect = f; reply = r }) (record { core = y; effect = f; reply = s })
   matched-system f r s e h = record { core = h; effect = refl; reply = λ o. absurd (both-ways (isSystem k q) o e) }
 
   -- .. and one side may be refused, as long as the members see nothing of it
   pub matched-far : {x y : Core} (b c : Bool) {u v u′ v′ : Core} (r s : Reply) → isSystem k q ≡ true → Alike M C x y →
-    Alike M C x u → Alike M C x v → Alike M C y u′ → Alike M C y v′ →
-    Matched k M C q
+      Alike M C x u → Alike M C x v → Alike M C y u′ → Alike M C y v′ →
+      Matched k M C q
       (guard b (record { core = u; effect = keeps; reply = r }) (record { core = v; effect = keeps; reply = s }))
       (guard c (record { core = u′; effect = keeps; reply = r }) (record { core = v′; effect = keeps; reply = s }))
   matched-far true true r s e h f g f′ g′ = matched-system keeps r r e (alike-trans M C (alike-sym M C f) (alike-trans M C h f′))
@@ -148,5 +157,6 @@ module _ (k : Tables) (M C : ℕ → Bool) (q : ℕ) where
   matched-far false true r s e h f g f′ g′ = matched-system keeps s r e (alike-trans M C (alike-sym M C g) (alike-trans M C h f′))
   matched-far false false r s e h f g f′ g′ = matched-system keeps s s e (alike-trans M C (alike-sym M C g) (alike-trans M C h g′))
 
-pub ruleset within = (matched-guard, matched-same, alike-parts, alike-chan, alike-chans, alike-log, alike-halted, alike-clock, agree-modify, agree-place)
+pub ruleset within = (matched-guard, matched-same, alike-parts, alike-chan, alike-log, alike-halted, alike-clock, agree-modify, agree-place)
+
 pub ruleset without = (quiet-guard, quiet-core, quiet-writes, quiet-clears, parts-out, chan-out, log-out, modify-out, place-out, alike-refl)

@@ -1,12 +1,12 @@
 -- The bits of a word.
-use mathlib.Core.Path.{_≡_, refl, sym, ap, ap₂, _∙_}
-use mathlib.Core.Bool.{Bool, true, false, cond, not}
+use mathlib.Core.Path.{_≡_, refl, sym, ap, _∙_}
+use mathlib.Core.Bool.{true, false}
 use mathlib.Core.Logic.{_⊎_, inl, inr}
-use Prim.Native.Nat.{ℕ, zero, suc, _+_, _*_, _/_, _%_, _^_, _<_, _≤_, min, max}
+use Prim.Native.Nat.{ℕ, zero, suc, _/_, _%_, _^_, _<_, _≤_, min, max}
 use native.Mathlib.Omega.{arith}
 use lib.Dec.{eqb}
 use lib.Bits.{bitAnd, bitOr, and-step, or-step}
-use Rattle.std.proofs.shelf.Tests.{both-ways, not-true, not-from-false, eqb-false, eqb-true, ne-eqb, cases-eq}
+use Rattle.std.proofs.shelf.Tests.{not-true, not-from-false, eqb-false, ne-eqb, cases-eq}
 use Rattle.machine.specs.Partitions.{bit}
 
 -- the bit of a number, as 0 or 1
@@ -67,15 +67,16 @@ bit-of : (n w : ℕ) → w < 2 ^ n → (w ≡ 0 → ⊥) → Bit w
 unfolding at
 bit-of zero w h z = absurd (z (omega arith))
 bit-of (suc n) w h z =
-    elim (cases-eq (w % 2) 1)
-      [ inl e ↦ record { at-place = 0; set = e }
-      | inr o ↦ let r = bit-of n (w / 2) (omega arith) (λ e. z (omega arith)) in record { at-place = suc (r .at-place); set = r .set } ]
+    elim (cases-eq (w % 2) 1) [
+      | inl e ↦ record { at-place = 0; set = e }
+      | inr o ↦ let r = bit-of n (w / 2) (omega arith) (λ e. z (omega arith)) in record { at-place = suc (r .at-place); set = r .set }
+    ]
 
 at-bit : (w i : ℕ) → at w i ≡ 1 → bit w i ≡ true
 at-bit w i h =
     not-from-false _ (ne-eqb _ _ (λ e.
-      let f = sym (at-and w (2 ^ i) i) ∙ (ap (λ v. at v i) e ∙ at-zero i) in
-      let g = at-own i in absurd (omega arith)))
+    let f = sym (at-and w (2 ^ i) i) ∙ (ap (λ v. at v i) e ∙ at-zero i) in
+    let g = at-own i in absurd (omega arith)))
 
 bit-at : (w i : ℕ) → bit w i ≡ true → at w i ≡ 1
 bit-at w i h =
@@ -102,9 +103,10 @@ pow-bit r i h = at-other r i (bit-at (2 ^ r) i h)
 
 pub or-bit : (m r i : ℕ) → bit (bitOr m (2 ^ r)) i ≡ true → (bit m i ≡ true) ⊎ (i ≡ r)
 or-bit m r i h =
-    elim (cases-eq i r)
-      [ inl e ↦ inr e
-      | inr o ↦ inl (at-bit m i (other (at m i) (at (2 ^ r) i) (sym (at-or m (2 ^ r) i) ∙ bit-at _ i h) (λ e. o (at-other r i e)))) ]
+    elim (cases-eq i r) [
+      | inl e ↦ inr e
+      | inr o ↦ inl (at-bit m i (other (at m i) (at (2 ^ r) i) (sym (at-or m (2 ^ r) i) ∙ bit-at _ i h) (λ e. o (at-other r i e))))
+    ]
   where
     other : (a b : ℕ) → max a b ≡ 1 → (b ≡ 1 → ⊥) → a ≡ 1
     other a b e n = omega arith
@@ -126,6 +128,6 @@ common a b h =
 pub in-common : (a b i : ℕ) → bit a i ≡ true → bit b i ≡ true → eqb (bitAnd a b) 0 ≡ false
 in-common a b i g h =
     ne-eqb _ _ (λ e.
-      let f = sym (at-and a b i) ∙ (ap (λ v. at v i) e ∙ at-zero i) in
-      let u = bit-at a i g in
-      let v = bit-at b i h in absurd (omega arith))
+    let f = sym (at-and a b i) ∙ (ap (λ v. at v i) e ∙ at-zero i) in
+    let u = bit-at a i g in
+    let v = bit-at b i h in absurd (omega arith))

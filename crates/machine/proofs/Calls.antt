@@ -1,6 +1,6 @@
 -- Each call by its number, by a member and by an outsider.
-use mathlib.Core.Path.{_≡_, refl}
-use mathlib.Core.Bool.{Bool, true, false}
+use mathlib.Core.Path.{refl}
+use mathlib.Core.Bool.{Bool}
 use Prim.Native.Nat.{ℕ}
 use lib.Dec.{ltb}
 use lib.ListN.{getD}
@@ -48,13 +48,13 @@ module _ (k : Tables) (M C : ℕ → Bool) (w : Sealed k M C) where
 
   pub called-respects : (n : ℕ) → Respects k M C (called n)
   called-respects n =
-      record
-        { inside = λ q m x y a g r.
+      record {
+        inside = λ q m x y a g r.
             matched-guard k M C q (ltb n 25) _ refl
-              (λ _. perform-respects (getD calls n GetTime) .inside q m x y a g r)
-              (λ _. matched-same k M C q keeps _ r)
-        ; outside = λ q o h x a g.
+            (λ _. perform-respects (getD calls n GetTime) .inside q m x y a g r)
+            (λ _. matched-same k M C q keeps _ r);
+        outside = λ q o h x a g.
             quiet-guard M C x (ltb n 25)
-              (λ _. perform-respects (getD calls n GetTime) .outside q o h x a g)
-              (λ _. quiet-core M C x _ (alike-refl M C x))
-        }
+            (λ _. perform-respects (getD calls n GetTime) .outside q o h x a g)
+            (λ _. quiet-core M C x _ (alike-refl M C x));
+      }

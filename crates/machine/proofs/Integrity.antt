@@ -1,14 +1,12 @@
 -- Nobody writes into another's area.
-use mathlib.Core.Path.{_≡_, refl, sym, ap, subst, _∙_}
-use mathlib.Core.Bool.{Bool, true, false, cond, _&&_, _||_}
+use mathlib.Core.Path.{_≡_, refl, sym, ap, _∙_}
+use mathlib.Core.Bool.{Bool, true, false, cond, _&&_}
 use mathlib.Core.List.{List, [], _∷_}
-use mathlib.Core.Logic.{_⊎_, inl, inr}
-use Prim.Native.Nat.{ℕ, zero, suc, _+_}
-use native.Mathlib.Omega.{arith}
-use lib.Dec.{leb, ltb, eqb}
-use lib.ListN.{length, getD, set, replicate}
+use mathlib.Core.Logic.{inl, inr}
+use Prim.Native.Nat.{ℕ}
+use lib.Dec.{ltb, eqb}
 use Rattle.std.proofs.shelf.Lists.{getD-set-other}
-use Rattle.std.proofs.shelf.Tests.{both-ways, and-parts, and-from, and-left, and-cases, or-cases, or-left, or-parts, eqb-true, eqb-false, ne-eqb, eq-eqb, cases-bool}
+use Rattle.std.proofs.shelf.Tests.{both-ways, and-parts, or-cases, or-left, or-parts, eqb-true, eqb-false, ne-eqb}
 use Rattle.std.specs.declared.option.Option.{Option}
 use Rattle.std.specs.declared.option.Option.the-variants.{Some, None}
 use Rattle.queue.specs.Ring.{first}
@@ -21,22 +19,22 @@ use Rattle.vector.specs.declared.tables.ChannelKind.the-variants.{Sampling, Que
 use Rattle.machine.specs.declared.event.Event.{Event}
 use Rattle.machine.specs.declared.event.Event.the-variants.{Tick, Call, Load, Store, Fault, Line, SystemFault}
 use Rattle.machine.specs.declared.event.Hypercall.{Hypercall}
-use Rattle.machine.specs.declared.event.Hypercall.the-variants.{GetTime}
 use Rattle.machine.specs.declared.log.Entry.{Entry}
-use Rattle.machine.specs.declared.answer.Refusal.the-variants.{InvalidParam, OpNotAllowed, SystemHalted, NotOnProcessor}
+use Rattle.machine.specs.declared.answer.Refusal.the-variants.{SystemHalted}
 use Rattle.machine.specs.Answers.{Reply}
 use Rattle.machine.specs.Letters.{Letter}
 use Rattle.machine.specs.Questions.{exists, isSystem, manages, names, owner, response}
-use Rattle.machine.specs.State.{Core, State, Effect, keeps, writes, clears, clearsAll, Out, done, refused, guard, area, applied, settle}
+use Rattle.machine.specs.State.{Core, State, Effect, keeps, writes, clears, clearsAll, Out, refused, guard, area, applied}
 use Rattle.machine.specs.Faults as Faults
 use Rattle.machine.specs.Management as Management
 use Rattle.machine.specs.Ports as Ports
 use Rattle.machine.specs.Interrupts as Interrupts
 use Rattle.machine.specs.Monitor as Monitor
 use Rattle.machine.specs.Calls.{perform, calls, called}
-use Rattle.machine.specs.Step.{running, gate, load, store, fault, later, tick, outcome, step}
+use Rattle.machine.specs.Step.{running, gate, load, store, fault, tick, step}
 use Rattle.machine.specs.Runs.{after}
 use Rattle.machine.specs.Isolation.{existing, whose, isOf}
+use Rattle.machine.proofs.Numbered.{From, none, _also_, numbered}
 use Rattle.machine.specs.Integrity.{isCold, isColdReset, Integral, isSystemFault, reaches, Preserved}
 
 -- an effect on q's own area alone
@@ -65,10 +63,6 @@ module _ (q : ℕ) where
 
 ruleset mine = (own-guard, own-keeps, own-writes)
 
--- a call that touches the caller's own area alone
-abbrev Tame : Management.Call → Type 0
-Tame f = (k : Tables) (x : Core) (a : List ℕ) (q : ℕ) (g : List ℕ) → Own q (f k x a q g)
-
 carried-own : (a : Action) (q : ℕ) (x : Core) → Own q (Faults.carried a q x)
 carried-own Ignore q x = search mine
 carried-own Signal q x = search mine
@@ -87,9 +81,6 @@ createAt-own : (o : Option ℕ) (t : ChannelKind) (k : Tables) (x : Core) (q : �
 createAt-own None t k x q g = search mine
 createAt-own (Some i) t k x q g = search mine
 
-create-tame : (t : ChannelKind) → Tame (Ports.create t)
-create-tame t k x a q g = createAt-own (Ports.sought k a q t g) t k x q g
-
 sampled-own : (o : Option Letter) (x : Core) (a : List ℕ) (q : ℕ) (g : List ℕ) → Own q (Ports.sampled x a g o)
 sampled-own None x a q g = search mine
 sampled-own (Some m) x a q g = search mine
@@ -102,7 +93,7 @@ read-own : (o : Option Entry) (x : Core) (q : ℕ) → Own q (Monitor.read x o)
 read-own None x q = search mine
 read-own (Some e) x q = search mine
 
--- a call of this number does so, unless it is a system partition's cold reset
+-- a call of this number touches the caller's own area alone, unless it is a system partition's cold reset
 abbrev Safe : ℕ → Hypercall → Type 0
 Safe n h = (k : Tables) (x : Core) (a : List ℕ) (q : ℕ) (g : List ℕ) → (isSystem k q && isCold n g) ≡ false → Own q (perform h k x a q g)
 
@@ -118,14 +109,14 @@ other-no false b c e = refl
 reset-own : (k : Tables) (x : Core) (a : List ℕ) (q : ℕ) (g : List ℕ) → (isSystem k q && isCold 5 g) ≡ false → Own q (Management.resetPartition k x a q g)
 reset-own k x a q g c =
     own-guard q (ltb (Management.arg g 1) 2)
-      (λ _. own-guard q (exists k (Management.arg g 0))
-        (λ _. own-guard q (manages k q (Management.arg g 0))
-          (λ m. own-guard q (eqb (Management.arg g 1) 1)
-            (λ e. own-clears q _ _ _ (self k q (Management.arg g 0) (standard e) m))
-            (λ _. search mine))
-          (λ _. search mine))
-        (λ _. search mine))
-      (λ _. search mine)
+    (λ _. own-guard q (exists k (Management.arg g 0))
+    (λ _. own-guard q (manages k q (Management.arg g 0))
+    (λ m. own-guard q (eqb (Management.arg g 1) 1)
+    (λ e. own-clears q _ _ _ (self k q (Management.arg g 0) (standard e) m))
+    (λ _. search mine))
+    (λ _. search mine))
+    (λ _. search mine))
+    (λ _. search mine)
   where
     standard : eqb (Management.arg g 1) 1 ≡ true → isSystem k q ≡ false
     standard e = other-no (isSystem k q) (isCold 5 g) c (or-left (eqb (Management.arg g 1) 1) _ e)
@@ -134,27 +125,16 @@ reset-own k x a q g c =
 restart-own : (k : Tables) (x : Core) (a : List ℕ) (q : ℕ) (g : List ℕ) → (isSystem k q && isCold 23 g) ≡ false → Own q (Monitor.resetSystem k x a q g)
 restart-own k x a q g c =
     own-guard q (ltb (Management.arg g 0) 2)
-      (λ _. own-guard q (isSystem k q)
-        (λ s. own-guard q (eqb (Management.arg g 0) 1)
-          (λ e. absurd (both-ways (isSystem k q) (other-no (isSystem k q) (isCold 23 g) c e) s))
-          (λ _. search mine))
-        (λ _. search mine))
-      (λ _. search mine)
+    (λ _. own-guard q (isSystem k q)
+    (λ s. own-guard q (eqb (Management.arg g 0) 1)
+    (λ e. absurd (both-ways (isSystem k q) (other-no (isSystem k q) (isCold 23 g) c e) s))
+    (λ _. search mine))
+    (λ _. search mine))
+    (λ _. search mine)
 
--- each call of the list, numbered from n on
-data SafeFrom : ℕ → List Hypercall → Type 0 where
-  none : {n : ℕ} → SafeFrom n []
-  _also_ : {n : ℕ} {h : Hypercall} {hs : List Hypercall} → Safe n h → SafeFrom (suc n) hs → SafeFrom n (h ∷ hs)
-
-infixr 5 _also_
-
-safe-at : (n : ℕ) (hs : List Hypercall) → SafeFrom n hs → (i : ℕ) → Safe (n + i) (getD hs i GetTime)
-safe-at n [] none i = λ k x a q g e. search mine
-safe-at n (h ∷ hs) (s also r) zero = let e : n ≡ n + 0 = omega arith in subst (λ j. Safe j h) e s
-safe-at n (h ∷ hs) (s also r) (suc i) = let e : suc n + i ≡ n + suc i = omega arith in subst (λ j. Safe j (getD hs i GetTime)) e (safe-at (suc n) hs r i)
-
-all-safe : SafeFrom 0 calls
+all-safe : From Safe 0 calls
 all-safe =
+    -- 0 to 8: time, partitions, plans
     (λ k x a q g e. search mine)
     also (λ k x a q g e. search mine)
     also (λ k x a q g e. search mine)
@@ -164,18 +144,21 @@ all-safe =
     also (λ k x a q g e. search mine)
     also (λ k x a q g e. search mine)
     also (λ k x a q g e. search mine)
-    also (λ k x a q g e. create-tame Sampling k x a q g)
+    -- 9 to 15: ports
+    also (λ k x a q g e. createAt-own (Ports.sought k a q Sampling g) Sampling k x q g)
     also (λ k x a q g e. search mine)
     also (λ k x a q g e. let h = sampled-own (first (Ports.queue k x (Management.arg g 0))) x a q g in search mine)
-    also (λ k x a q g e. create-tame Queuing k x a q g)
+    also (λ k x a q g e. createAt-own (Ports.sought k a q Queuing g) Queuing k x q g)
     also (λ k x a q g e. search mine)
     also (λ k x a q g e. let h = taken-own (first (Ports.queue k x (Management.arg g 0))) k x a q g in search mine)
     also (λ k x a q g e. search mine)
+    -- 16 to 20: interrupts
     also (λ k x a q g e. search mine)
     also (λ k x a q g e. search mine)
     also (λ k x a q g e. search mine)
     also (λ k x a q g e. search mine)
     also (λ k x a q g e. search mine)
+    -- 21 to 24: the health monitor, the log, the system
     also (λ k x a q g e. faulted-own k x q 7)
     also (λ k x a q g e. let h = read-own (first (x .log)) x q in search mine)
     also restart-own
@@ -185,8 +168,8 @@ all-safe =
 called-own : (n : ℕ) (k : Tables) (x : Core) (a : List ℕ) (q : ℕ) (g : List ℕ) → (isSystem k q && isCold n g) ≡ false → Own q (called n k x a q g)
 called-own n k x a q g e =
     own-guard q (ltb n 25)
-      (λ _. let z : 0 + n ≡ n = omega arith in subst (λ j. Safe j (getD calls n GetTime)) z (safe-at 0 calls all-safe n) k x a q g e)
-      (λ _. search mine)
+    (λ _. numbered Safe (λ n k x a q g e. search mine) all-safe n k x a q g e)
+    (λ _. search mine)
 
 -- an outcome that leaves the areas alone
 record Still (u : Out) : Type 0 where
@@ -226,8 +209,8 @@ module _ (k : Tables) (s : State) (r : ℕ) where
       go : (b : Bool) → exists k q ≡ b → names (cond b (Some q) None) r ≡ false → Same q (gate k (s .core) q u)
       go true e d =
           applied-other _ q r (s .areas)
-            (own-guard q (s .core .halted) (λ _. search mine) (λ _. own-guard q (running k (s .core) q) (λ _. o) (λ _. search mine)) .effect)
-            (λ i. eqb-false q r d (sym i))
+          (own-guard q (s .core .halted) (λ _. search mine) (λ _. own-guard q (running k (s .core) q) (λ _. o) (λ _. search mine)) .effect)
+          (λ i. eqb-false q r d (sym i))
       go false e d =
           calm q _ (still-guard (running k (s .core) q) (λ i. absurd (both-ways (exists k q) e (and-parts (exists k q) _ i .0))) (λ _. search still))
 
@@ -241,7 +224,7 @@ module _ (k : Tables) (s : State) (r : ℕ) where
   fault-own q e = let h = faulted-own k (s .core) q e in search mine
 
   unreached : (e : Event) → isOf k r e ≡ false → isColdReset k e ≡ false → isSystemFault e ≡ false →
-    area (step k s e .state .areas) r ≡ area (s .areas) r
+      area (step k s e .state .areas) r ≡ area (s .areas) r
   unreached (Tick t) i c f = calm 0 (tick k (s .core) t) (search still)
   unreached (Call q n g) i c f = apart q _ i (called-own n k (s .core) (area (s .areas) q) q g c)
   unreached (Load q o) i c f = apart q _ i (load-own q o (area (s .areas) q))

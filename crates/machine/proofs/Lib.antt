@@ -13,3 +13,8 @@ pub mod Theorem
 pub mod Integrity
 pub mod Bits
 pub mod Rounds
+pub mod Numbered
+pub mod Refusals
+pub mod Calm
+pub mod Bounds
+pub mod Schedules

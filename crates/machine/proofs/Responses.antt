@@ -1,31 +1,28 @@
 -- Faults and the health monitor's responses, and the calls on the log and the system.
-use mathlib.Core.Path.{_≡_, refl, sym, ap, _∙_}
+use mathlib.Core.Path.{_≡_, refl, ap}
 use mathlib.Core.Bool.{Bool, true, false, cond, _&&_}
-use mathlib.Core.List.{List, []}
+use mathlib.Core.List.{[]}
 use Prim.Native.Nat.{ℕ}
-use lib.Dec.{leb, ltb, eqb}
-use lib.ListN.{length, getD, replicate}
-use Rattle.std.proofs.shelf.Tests.{both-ways}
+use lib.Dec.{leb, ltb}
+use lib.ListN.{replicate}
 use Rattle.std.specs.declared.option.Option.{Option}
 use Rattle.std.specs.declared.option.Option.the-variants.{Some, None}
-use Rattle.queue.specs.Ring.{first, over}
+use Rattle.queue.specs.Ring.{first}
 use Rattle.vector.specs.declared.tables.Tables.{Tables}
 use Rattle.vector.specs.declared.tables.Response.{Response}
 use Rattle.vector.specs.declared.tables.Action.{Action}
 use Rattle.vector.specs.declared.tables.Action.the-variants.{Ignore, Signal, Suspend, Halt, WarmReset, ColdReset}
 use Rattle.machine.specs.declared.clock.Clock.{Clock}
 use Rattle.machine.specs.declared.log.Entry.{Entry}
-use Rattle.machine.specs.Answers.{Reply}
 use Rattle.machine.specs.Partitions.{fresh, nobody}
-use Rattle.machine.specs.Questions.{exists, isSystem, response}
-use Rattle.machine.specs.State.{Core, Out, keeps, replied, with-log}
+use Rattle.machine.specs.Questions.{isSystem, response}
+use Rattle.machine.specs.State.{Core, keeps}
 use Rattle.machine.specs.Time.{clockOf}
-use Rattle.machine.specs.Faults.{entry, noted, logged, carried, faulted, strayed, restarted, systemCarried, systemResponse, systemFaulted}
-use Rattle.machine.specs.Management.{arg}
+use Rattle.machine.specs.Faults.{entry, noted, logged, carried, faulted, strayed, restarted, systemCarried, systemResponse}
 use Rattle.machine.specs.Monitor.{raisePartitionError, read, readLog, resetSystem, haltSystem}
 use Rattle.machine.specs.Step.{systemFault}
 use Rattle.machine.proofs.Agree.{agree-refl}
-use Rattle.machine.proofs.Alike.{Alike, Matched, Quiet, alike-refl, alike-sym, alike-log, log-out, matched-guard, matched-same, matched-system, quiet-guard, quiet-core, within, without}
+use Rattle.machine.proofs.Alike.{Alike, Matched, Quiet, alike-refl, alike-sym, alike-log, log-out, matched-guard, matched-same, matched-system, within, without}
 use Rattle.machine.proofs.Sealed.{Sealed}
 use Rattle.machine.proofs.Respects.{Respects}
 use Rattle.machine.proofs.Targets.{no-system}
@@ -48,12 +45,12 @@ module _ (M C : ℕ → Bool) where
 
   restarted-alike : (x y : Core) → Alike M C x y → Alike M C (restarted x) (restarted y)
   restarted-alike x y r =
-      record
-        { clock = ap (λ (c : Clock). clockOf (c .time) 0 0 (c .time)) (r .clock)
-        ; halted = r .halted
-        ; parts = agree-refl M nobody (replicate 8 fresh)
-        ; chans = agree-refl C [] (replicate 8 [])
-        }
+      record {
+        clock = ap (λ (c : Clock). clockOf (c .time) 0 0 (c .time)) (r .clock);
+        halted = r .halted;
+        parts = agree-refl M nobody (replicate 8 fresh);
+        chans = agree-refl C [] (replicate 8 []);
+      }
 
   carried-quiet : (a : Action) (q : ℕ) (x y : Core) → M q ≡ false → Alike M C x y → Quiet M C x (carried a q y)
   carried-quiet Ignore q x y o r = search without depth 8
@@ -97,8 +94,8 @@ module _ (k : Tables) (M C : ℕ → Bool) where
   pub systemFault-matched : (q e : ℕ) (x y : Core) → Alike M C x y → Matched k M C q (systemFault k x e) (systemFault k y e)
   systemFault-matched q e x y r =
       matched-guard k M C q (leb 8 e && ltb e 12) _ refl
-        (λ _. systemCarried-matched (systemResponse k e .action) q _ _ (logged-alike M C 255 e (systemResponse k e) x y r))
-        (λ _. matched-same k M C q keeps _ r)
+      (λ _. systemCarried-matched (systemResponse k e .action) q _ _ (logged-alike M C 255 e (systemResponse k e) x y r))
+      (λ _. matched-same k M C q keeps _ r)
 
   read-matched : (q : ℕ) (o p : Option Entry) (x y : Core) → isSystem k q ≡ true → Alike M C x y → Matched k M C q (read x o) (read y p)
   read-matched q None None x y s r = matched-system k M C q keeps _ _ s r
@@ -109,31 +106,31 @@ module _ (k : Tables) (M C : ℕ → Bool) where
 module _ (k : Tables) (M C : ℕ → Bool) (w : Sealed k M C) where
   pub raisePartitionError-respects : Respects k M C raisePartitionError
   raisePartitionError-respects =
-      record
-        { inside = λ q m x y a g r. faulted-matched k M C q 7 x y r
-        ; outside = λ q o h x a g. faulted-quiet M C k q 7 x o
-        }
+      record {
+        inside = λ q m x y a g r. faulted-matched k M C q 7 x y r;
+        outside = λ q o h x a g. faulted-quiet M C k q 7 x o;
+      }
 
   pub readLog-respects : Respects k M C readLog
   readLog-respects =
-      record
-        { inside = λ q m x y a g r.
+      record {
+        inside = λ q m x y a g r.
             matched-guard k M C q (isSystem k q) _ refl
-              (λ s. read-matched k M C q (first (x .log)) (first (y .log)) x y s r)
-              (λ _. matched-same k M C q keeps _ r)
-        ; outside = λ q o h x a g. search (without, no-system)
-        }
+            (λ s. read-matched k M C q (first (x .log)) (first (y .log)) x y s r)
+            (λ _. matched-same k M C q keeps _ r);
+        outside = λ q o h x a g. search (without, no-system);
+      }
 
   pub resetSystem-respects : Respects k M C resetSystem
   resetSystem-respects =
-      record
-        { inside = λ q m x y a g r. let e = restarted-alike M C x y r in search within depth 10
-        ; outside = λ q o h x a g. search (without, no-system) depth 8
-        }
+      record {
+        inside = λ q m x y a g r. let e = restarted-alike M C x y r in search within depth 10;
+        outside = λ q o h x a g. search (without, no-system) depth 8;
+      }
 
   pub haltSystem-respects : Respects k M C haltSystem
   haltSystem-respects =
-      record
-        { inside = λ q m x y a g r. search within
-        ; outside = λ q o h x a g. search (without, no-system)
-        }
+      record {
+        inside = λ q m x y a g r. search within;
+        outside = λ q o h x a g. search (without, no-system);
+      }

@@ -1,11 +1,10 @@
 -- The calls on interrupts, and lines.
-use mathlib.Core.Path.{_≡_, refl, sym, ap, _∙_}
+use mathlib.Core.Path.{_≡_, refl, ap}
 use mathlib.Core.Bool.{Bool, true, false, cond}
 use mathlib.Core.List.{List}
-use Prim.Native.Nat.{ℕ, zero, suc, _+_, _^_}
+use Prim.Native.Nat.{ℕ, zero, suc}
 use lib.Dec.{ltb, eqb}
 use lib.IntN.{pos}
-use lib.ListN.{getD}
 use Rattle.std.proofs.shelf.Tests.{both-ways, ltb-true}
 use Rattle.std.specs.declared.option.Option.{Option}
 use Rattle.std.specs.declared.option.Option.the-variants.{Some, None}
@@ -19,13 +18,13 @@ use Rattle.machine.specs.Management.{arg}
 use Rattle.machine.specs.Interrupts.{hit, raised, raiseIpvi, getIrqs, setIrqMask, clearIrqMask, clearIrqPending, lineOf, line}
 use Rattle.machine.specs.Isolation.{stays}
 use Rattle.machine.proofs.Agree.{Agree, agree-refl, agree-trans, agree-put}
-use Rattle.machine.proofs.Alike.{Alike, Matched, Quiet, alike-refl, matched-guard, matched-same, matched-told, quiet-guard, quiet-core, alike-parts, parts-out, modify-out, agree-modify, within, without}
+use Rattle.machine.proofs.Alike.{Alike, Matched, Quiet, alike-refl, matched-guard, matched-same, matched-told, quiet-guard, quiet-core, parts-out, agree-modify, within, without}
 use Rattle.machine.proofs.Sealed.{Sealed}
 use Rattle.machine.proofs.Respects.{Respects}
 
 module _ (M C : ℕ → Bool) where
   agree-raised : (mask bits n : ℕ) {ps rs : List Partition} → Agree M nobody ps rs →
-    Agree M nobody (raised mask bits n ps) (raised mask bits n rs)
+      Agree M nobody (raised mask bits n ps) (raised mask bits n rs)
   unfolding raised
   agree-raised mask bits zero r = r
   agree-raised mask bits (suc n) r = agree-modify M C (agree-raised mask bits n r) n (hit mask bits n)
@@ -40,12 +39,12 @@ module _ (M C : ℕ → Bool) where
 
   -- the mask names no member
   raised-out : (mask bits n : ℕ) (ps : List Partition) → ((d : ℕ) → bit mask d ≡ true → M d ≡ true → ⊥) →
-    Agree M nobody ps (raised mask bits n ps)
+      Agree M nobody ps (raised mask bits n ps)
   unfolding raised
   raised-out mask bits zero ps h = agree-refl M nobody ps
   raised-out mask bits (suc n) ps h =
       agree-trans M nobody (raised-out mask bits n ps h)
-        (agree-put M nobody (raised mask bits n ps) n _ (λ m. missed mask bits n _ (λ e. h n e m)))
+      (agree-put M nobody (raised mask bits n ps) n _ (λ m. missed mask bits n _ (λ e. h n e m)))
 
 module _ (k : Tables) (M C : ℕ → Bool) (w : Sealed k M C) where
   -- an outsider's link names no member
@@ -54,23 +53,23 @@ module _ (k : Tables) (M C : ℕ → Bool) (w : Sealed k M C) where
 
   pub raiseIpvi-respects : Respects k M C raiseIpvi
   raiseIpvi-respects =
-      record
-        { inside = λ q m x y a g r. search (within, agree-raised) depth 8
-        ; outside = λ q o h x a g.
+      record {
+        inside = λ q m x y a g r. search (within, agree-raised) depth 8;
+        outside = λ q o h x a g.
             quiet-guard M C x (ltb (arg g 0) 8)
-              (λ l. quiet-guard M C x (eqb (link k q (arg g 0)) 0)
-                (λ _. search without)
-                (λ _. quiet-core M C x _
-                  (parts-out M C (alike-refl M C x) (raised-out M C (link k q (arg g 0)) _ 8 (x .parts) (link-out q (arg g 0) o h l)))))
-              (λ _. search without)
-        }
+            (λ l. quiet-guard M C x (eqb (link k q (arg g 0)) 0)
+            (λ _. search without)
+            (λ _. quiet-core M C x _
+            (parts-out M C (alike-refl M C x) (raised-out M C (link k q (arg g 0)) _ 8 (x .parts) (link-out q (arg g 0) o h l)))))
+            (λ _. search without);
+      }
 
   pub getIrqs-respects : Respects k M C getIrqs
   getIrqs-respects =
-      record
-        { inside = λ q m x y a g r. matched-told k M C q r refl (ap (λ (p : Partition). reply (pos 0) (p .pending) (p .mask)) (r .parts .at q m))
-        ; outside = λ q o h x a g. search without
-        }
+      record {
+        inside = λ q m x y a g r. matched-told k M C q r refl (ap (λ (p : Partition). reply (pos 0) (p .pending) (p .mask)) (r .parts .at q m));
+        outside = λ q o h x a g. search without;
+      }
 
   pub setIrqMask-respects : Respects k M C setIrqMask
   setIrqMask-respects = record { inside = λ q m x y a g r. search within depth 8; outside = λ q o h x a g. search without depth 8 }

@@ -1,11 +1,11 @@
 -- One event: a kept one takes like states to like states, and an outsider's leaves a state like itself.
 use mathlib.Core.Path.{_≡_, refl, sym, ap, ap₂, subst, _∙_}
 use mathlib.Core.Bool.{Bool, true, false, cond, _&&_}
-use mathlib.Core.List.{List, [], _∷_}
-use mathlib.Core.Logic.{_⊎_, inl, inr}
+use mathlib.Core.List.{List, []}
+use mathlib.Core.Logic.{inl, inr}
 use Prim.Native.Nat.{ℕ, zero, suc, _-_}
-use lib.Dec.{ltb, eqb}
-use lib.ListN.{length, getD, set, replicate}
+use lib.Dec.{ltb}
+use lib.ListN.{length, replicate}
 use Rattle.std.proofs.shelf.Tests.{both-ways, and-parts, and-left, eqb-true, cases-bool}
 use Rattle.std.specs.declared.option.Option.{Option}
 use Rattle.std.specs.declared.option.Option.the-variants.{Some, None}
@@ -15,12 +15,12 @@ use Rattle.machine.specs.declared.partition.Partition.{Partition}
 use Rattle.machine.specs.declared.event.Event.{Event}
 use Rattle.machine.specs.declared.event.Event.the-variants.{Tick, Call, Load, Store, Fault, Line, SystemFault}
 use Rattle.machine.specs.declared.answer.Refusal.the-variants.{InvalidParam, SystemHalted}
-use Rattle.machine.specs.Partitions.{nobody, isReady}
+use Rattle.machine.specs.Partitions.{isReady}
 use Rattle.machine.specs.Questions.{exists, isSystem, names, owner, holder, slotsOf, plan}
 use Rattle.machine.specs.State.{Core, State, Effect, keeps, writes, clears, clearsAll, Out, refused, guard, area, wiped, wipedAll, applied, settle}
 use Rattle.machine.specs.Calls.{called}
-use Rattle.machine.specs.Interrupts.{line, lineOf}
-use Rattle.machine.specs.Step.{running, gate, load, store, fault, outcome, step}
+use Rattle.machine.specs.Interrupts.{lineOf}
+use Rattle.machine.specs.Step.{running, gate, load, store, fault, step}
 use Rattle.machine.specs.Isolation.{existing, isOf, stays, kept}
 use Rattle.machine.proofs.Agree.{Agree, agree-refl, agree-sym, agree-trans, agree-set, agree-out}
 use Rattle.machine.proofs.Alike.{Alike, Matched, Far, Quiet, alike-refl, alike-sym, alike-trans, matched-guard, matched-same, quiet-guard, quiet-core, quiet-writes}
@@ -95,19 +95,20 @@ module _ (k : Tables) (M C : ℕ → Bool) where
   -- nobody's event under a partition's number is refused on both sides
   running-alike : (q : ℕ) → (exists k q ≡ true → M q ≡ true) → (x y : Core) → Alike M C x y → running k x q ≡ running k y q
   running-alike q m x y r =
-      elim (cases-bool (exists k q))
-        [ inl e ↦
+      elim (cases-bool (exists k q)) [
+        | inl e ↦
             ap₂ (λ (c : Clock) (p : Partition).
-                exists k q && (names (holder (slotsOf (plan k (c .plan))) (c .time - c .start)) q && isReady (p .status)))
-              (r .clock) (r .parts .at q (m e))
-        | inr e ↦ and-left (exists k q) _ e ∙ sym (and-left (exists k q) _ e) ]
+            exists k q && (names (holder (slotsOf (plan k (c .plan))) (c .time - c .start)) q && isReady (p .status)))
+            (r .clock) (r .parts .at q (m e))
+        | inr e ↦ and-left (exists k q) _ e ∙ sym (and-left (exists k q) _ e)
+      ]
 
   gate-matched : (q : ℕ) → (exists k q ≡ true → M q ≡ true) → (x y : Core) (u v : Out) → Alike M C x y →
-    (M q ≡ true → Matched k M C q u v) → Matched k M C q (gate k x q u) (gate k y q v)
+      (M q ≡ true → Matched k M C q u v) → Matched k M C q (gate k x q u) (gate k y q v)
   gate-matched q m x y u v r h =
       matched-guard k M C q (running k x q) _ (running-alike q m x y r)
-        (λ e. h (m (and-parts (exists k q) _ e .0)))
-        (λ _. matched-same k M C q keeps _ r)
+      (λ e. h (m (and-parts (exists k q) _ e .0)))
+      (λ _. matched-same k M C q keeps _ r)
 
   gate-quiet : (q : ℕ) (x : Core) (u : Out) → Quiet M C x u → Quiet M C x (gate k x q u)
   gate-quiet q x u h = quiet-guard M C x (running k x q) (λ _. h) (λ _. quiet-core M C x _ (alike-refl M C x))
@@ -159,25 +160,25 @@ module _ (k : Tables) (M C : ℕ → Bool) (w : Sealed k M C) where
 
   settled : (a q : ℕ) (s t : State) (u v : Out) → Like M C s t → Matched k M C q u v → Like M C (settle s a u .state) (settle t a v .state)
   settled a q s t u v r h =
-      record
-        { core = h .core
-        ; areas = subst (λ f. Agree M [] (applied (u .effect) a (s .areas)) (applied f a (t .areas))) (h .effect)
-            (agree-applied M (u .effect) a (r .areas))
-        }
+      record {
+        core = h .core;
+        areas = subst (λ f. Agree M [] (applied (u .effect) a (s .areas)) (applied f a (t .areas))) (h .effect)
+            (agree-applied M (u .effect) a (r .areas));
+      }
 
   settled-quiet : (q : ℕ) (s : State) (u : Out) → M q ≡ false → Quiet M C (s .core) u → Like M C s (settle s q u .state)
   settled-quiet q s u o h = record { core = h .core; areas = applied-out M (u .effect) q (s .areas) o (h .effect) }
 
   -- the one place where a member's two areas are made one
   acts : (f : Core → List ℕ → Out) (q : ℕ) → (exists k q ≡ true → M q ≡ true) → (s t : State) → Like M C s t →
-    (M q ≡ true → (a : List ℕ) → Matched k M C q (f (s .core) a) (f (t .core) a)) →
-    Matched k M C q
+      (M q ≡ true → (a : List ℕ) → Matched k M C q (f (s .core) a) (f (t .core) a)) →
+      Matched k M C q
       (halting s (gate k (s .core) q (f (s .core) (area (s .areas) q))))
       (halting t (gate k (t .core) q (f (t .core) (area (t .areas) q))))
   acts f q m s t r h =
       halting-matched q s t _ _ r
-        (gate-matched k M C q m (s .core) (t .core) _ _ (r .core)
-          (λ e. subst (λ b. Matched k M C q (f (s .core) (area (s .areas) q)) (f (t .core) b)) (r .areas .at q e) (h e (area (s .areas) q))))
+      (gate-matched k M C q m (s .core) (t .core) _ _ (r .core)
+      (λ e. subst (λ b. Matched k M C q (f (s .core) (area (s .areas) q)) (f (t .core) b)) (r .areas .at q e) (h e (area (s .areas) q))))
 
   said : (p q : ℕ) {u v : Out} → Matched k M C q u v → isSystem k p ≡ false → names (existing k q) p ≡ true → u .reply ≡ v .reply
   said p q h n e = h .reply (ap (isSystem k) (its k M q p e) ∙ n)
@@ -188,7 +189,7 @@ module _ (k : Tables) (M C : ℕ → Bool) (w : Sealed k M C) where
       record { state = settled 0 0 s t _ _ r h; reply = λ p n e. absurd (both-ways false refl e) }
   step-steady (Call q n g) s t m r =
       let h = acts (λ x a. called n k x a q g) q (member k M q m) s t r
-                (λ e a. called-respects k M C w n .inside q e (s .core) (t .core) a g (r .core)) in
+      (λ e a. called-respects k M C w n .inside q e (s .core) (t .core) a g (r .core)) in
       record { state = settled q q s t _ _ r h; reply = λ p n e. said p q h n e }
   step-steady (Load q o) s t m r =
       let h = acts (λ x a. load k x a q o) q (member k M q m) s t r (λ e a. load-matched k M C q o (s .core) (t .core) a (r .core)) in
@@ -208,7 +209,7 @@ module _ (k : Tables) (M C : ℕ → Bool) (w : Sealed k M C) where
 
   -- a line leaves the areas alone
   line-areas : (x : Core) (ms : List (List ℕ)) (l : ℕ) (b c : Bool) (o : Option ℕ) →
-    Agree M [] ms (applied (guard b (refused x SystemHalted) (guard c (lineOf o x l) (refused x InvalidParam)) .effect) 0 ms)
+      Agree M [] ms (applied (guard b (refused x SystemHalted) (guard c (lineOf o x l) (refused x InvalidParam)) .effect) 0 ms)
   line-areas x ms l true c o = agree-refl M [] ms
   line-areas x ms l false false o = agree-refl M [] ms
   line-areas x ms l false true None = agree-refl M [] ms
@@ -223,7 +224,7 @@ module _ (k : Tables) (M C : ℕ → Bool) (w : Sealed k M C) where
   step-quiet (Call q n g) s h =
       let o = outsider k M q h in
       settled-quiet q s _ (o .out)
-        (halting-quiet s _ (gate-quiet k M C q (s .core) _ (called-respects k M C w n .outside q (o .out) (o .there) (s .core) (area (s .areas) q) g)))
+      (halting-quiet s _ (gate-quiet k M C q (s .core) _ (called-respects k M C w n .outside q (o .out) (o .there) (s .core) (area (s .areas) q) g)))
   step-quiet (Load q i) s h =
       let o = outsider k M q h in
       settled-quiet q s _ (o .out) (halting-quiet s _ (gate-quiet k M C q (s .core) _ (load-quiet k M C q i (s .core) (area (s .areas) q) (o .out))))
@@ -234,8 +235,8 @@ module _ (k : Tables) (M C : ℕ → Bool) (w : Sealed k M C) where
       let o = outsider k M q h in
       settled-quiet q s _ (o .out) (halting-quiet s _ (gate-quiet k M C q (s .core) _ (fault-quiet k M C q f (s .core) (o .out))))
   step-quiet (Line l) s h =
-      record
-        { core = halting-quiet s _ (line-quiet k M C w l (s .core) (outside-line l (owner k l) (ltb l 16) h)) .core
-        ; areas = line-areas (s .core) (s .areas) l (s .core .halted) (ltb l 16) (owner k l)
-        }
+      record {
+        core = halting-quiet s _ (line-quiet k M C w l (s .core) (outside-line l (owner k l) (ltb l 16) h)) .core;
+        areas = line-areas (s .core) (s .areas) l (s .core .halted) (ltb l 16) (owner k l);
+      }
   step-quiet (SystemFault f) s h = absurd (both-ways true h refl)

@@ -1,6 +1,6 @@
 -- Time passes alike for machines that are alike.
-use mathlib.Core.Path.{_≡_, refl, sym, ap, ap₂, subst, _∙_}
-use mathlib.Core.Bool.{Bool, true, false, _&&_}
+use mathlib.Core.Path.{_≡_, refl, sym, ap, subst, _∙_}
+use mathlib.Core.Bool.{Bool, _&&_}
 use mathlib.Core.List.{List, [], _∷_}
 use Prim.Native.Nat.{ℕ, zero, suc, _+_, _-_}
 use native.Mathlib.Omega.{arith}
@@ -24,7 +24,7 @@ each-length f i [] = refl
 each-length f i (x ∷ xs) = ap suc (each-length f (i + 1) xs)
 
 each-same : (f : ℕ → Partition → Partition) (i q : ℕ) (xs ys : List Partition) → length xs ≡ length ys →
-  getD xs q nobody ≡ getD ys q nobody → getD (eachFrom f i xs) q nobody ≡ getD (eachFrom f i ys) q nobody
+    getD xs q nobody ≡ getD ys q nobody → getD (eachFrom f i xs) q nobody ≡ getD (eachFrom f i ys) q nobody
 unfolding eachFrom
 each-same f i q [] [] l e = refl
 each-same f i q [] (y ∷ ys) l e = absurd (omega arith)
@@ -39,20 +39,20 @@ record Synchronous (M : ℕ → Bool) (x y : Timed) : Type 0 where
 
 module _ (M : ℕ → Bool) (ps : Plans) where
   agree-each : (f : ℕ → Partition → Partition) {xs ys : List Partition} → Agree M nobody xs ys →
-    Agree M nobody (eachFrom f 0 xs) (eachFrom f 0 ys)
+      Agree M nobody (eachFrom f 0 xs) (eachFrom f 0 ys)
   agree-each f {xs} {ys} r =
-      record
-        { long = each-length f 0 xs ∙ (r .long ∙ sym (each-length f 0 ys))
-        ; at = λ q m. each-same f 0 q xs ys (r .long) (r .at q m)
-        }
+      record {
+        long = each-length f 0 xs ∙ (r .long ∙ sym (each-length f 0 ys));
+        at = λ q m. each-same f 0 q xs ys (r .long) (r .at q m);
+      }
 
   micro-alike : (x y : Timed) → Synchronous M x y → Synchronous M (micro ps x) (micro ps y)
   unfolding micro wakeAt
   micro-alike x y r =
-      record
-        { clock = ap (rolled ps) (r .clock)
-        ; parts = subst (λ c. Agree M nobody (due x (x .clock)) (due y c)) (r .clock) (agree-each _ (r .parts))
-        }
+      record {
+        clock = ap (rolled ps) (r .clock);
+        parts = subst (λ c. Agree M nobody (due x (x .clock)) (due y c)) (r .clock) (agree-each _ (r .parts));
+      }
     where
       due : Timed → Clock → List Partition
       due z c = eachFrom (wakes (slotsOf (planAt ps (rolled ps c .plan))) (rolled ps c .time - rolled ps c .start)) 0 (z .parts)
@@ -71,7 +71,7 @@ module _ (k : Tables) (M C : ℕ → Bool) where
   pub tick-matched : (q t : ℕ) (x y : Core) → Alike M C x y → Matched k M C q (tick k x t) (tick k y t)
   tick-matched q t x y r =
       matched-guard k M C q _ _ (ap (λ (c : Clock). leb (c .time) t && leb (t - c .time) 1000000) (r .clock))
-        (λ _. matched-same k M C q keeps _
-          (subst (λ (c : Clock). Alike M C (later k (t - x .clock .time) x) (later k (t - c .time) y)) (r .clock)
-            (later-alike (t - x .clock .time) x y r)))
-        (λ _. matched-same k M C q keeps _ r)
+      (λ _. matched-same k M C q keeps _
+      (subst (λ (c : Clock). Alike M C (later k (t - x .clock .time) x) (later k (t - c .time) y)) (r .clock)
+      (later-alike (t - x .clock .time) x y r)))
+      (λ _. matched-same k M C q keeps _ r)

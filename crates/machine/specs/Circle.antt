@@ -30,10 +30,10 @@ pub record Closed (k : Tables) (M : ℕ → Bool) : Type 0 where
   pub systems : (q : ℕ) → exists k q ≡ true → isSystem k q ≡ true → M q ≡ true
   -- so is who writes a channel that a member reads
   pub writers : (i j : ℕ) → i < k .ports .count → j < k .ports .count →
-    feeds k i j ≡ true → M (portOwner k j) ≡ true → M (portOwner k i) ≡ true
+      feeds k i j ≡ true → M (portOwner k j) ≡ true → M (portOwner k i) ≡ true
   -- who reads a queuing channel that a member writes
   pub readers : (i j : ℕ) → i < k .ports .count → j < k .ports .count →
-    feeds k i j ≡ true → isQueuing k i ≡ true → M (portOwner k i) ≡ true → M (portOwner k j) ≡ true
+      feeds k i j ≡ true → isQueuing k i ≡ true → M (portOwner k i) ≡ true → M (portOwner k j) ≡ true
   -- and who raises an IPVI that a member receives
   pub raisers : (q n d : ℕ) → exists k q ≡ true → n < 8 → bit (link k q n) d ≡ true → M d ≡ true → M q ≡ true
 

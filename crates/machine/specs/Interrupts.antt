@@ -28,7 +28,7 @@ abbrev pub raiseIpvi : Call
 raiseIpvi k x a q g =
     guard (ltb (arg g 0) 8)
     (guard (eqb (link k q (arg g 0)) 0) (refused x NoAction)
-        (done (with-parts x (raised (link k q (arg g 0)) (2 ^ arg g 0) 8 (x .parts)))))
+    (done (with-parts x (raised (link k q (arg g 0)) (2 ^ arg g 0) 8 (x .parts)))))
     (refused x InvalidParam)
 
 -- 17: the pending word in a, the mask in b

@@ -16,3 +16,4 @@ pub mod Circle
 pub mod Isolation
 pub mod Integrity
 pub mod Examples
+pub mod Laws

@@ -58,9 +58,9 @@ abbrev pub resetPartition : Call
 resetPartition k x a q g =
     guard (ltb (arg g 1) 2)
     (onTarget k x q (arg g 0)
-        (guard (eqb (arg g 1) 1)
-            (record { core = renewed x (arg g 0); effect = clears (arg g 0); reply = reply (pos 0) 0 0 })
-            (done (renewed x (arg g 0)))))
+    (guard (eqb (arg g 1) 1)
+    (record { core = renewed x (arg g 0); effect = clears (arg g 0); reply = reply (pos 0) 0 0 })
+    (done (renewed x (arg g 0)))))
     (refused x InvalidParam)
 
 -- 6: the caller goes IDLE, unless an unmasked bit is pending
@@ -72,8 +72,8 @@ abbrev pub switchPlan : Call
 switchPlan k x a q g =
     guard (ltb (arg g 0) (k .plans .count))
     (guard (isSystem k q)
-        (done (with-clock x (clockOf (x .clock .time) (x .clock .plan) (arg g 0) (x .clock .start))))
-        (refused x PermError))
+    (done (with-clock x (clockOf (x .clock .time) (x .clock .plan) (arg g 0) (x .clock .start))))
+    (refused x PermError))
     (refused x InvalidParam)
 
 -- the microseconds without a slot from e to the frame's end f, gap by gap

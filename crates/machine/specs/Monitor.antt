@@ -33,10 +33,10 @@ abbrev pub resetSystem : Call
 resetSystem k x a q g =
     guard (ltb (arg g 0) 2)
     (guard (isSystem k q)
-        (guard (eqb (arg g 0) 1)
-            (record { core = with-log (restarted x) []; effect = clearsAll (k .partitions .count); reply = reply (pos 0) 0 0 })
-            (done (restarted x)))
-        (refused x PermError))
+    (guard (eqb (arg g 0) 1)
+    (record { core = with-log (restarted x) []; effect = clearsAll (k .partitions .count); reply = reply (pos 0) 0 0 })
+    (done (restarted x)))
+    (refused x PermError))
     (refused x InvalidParam)
 
 -- 24: halts the system

@@ -63,7 +63,7 @@ createAt None t k x q g = refused x InvalidParam
 createAt (Some i) t k x q g =
     guard (agrees k i g && deepens k i t g)
     (guard (isOpen i (getD (x .parts) q nobody)) (refused x NoAction)
-        (told (with-parts x (modify (x .parts) q (opened i))) i 0 0))
+    (told (with-parts x (modify (x .parts) q (opened i))) i 0 0))
     (refused x InvalidConfig)
 
 abbrev pub create : ChannelKind → Call
@@ -119,8 +119,8 @@ abbrev pub sendQueuingMessage : Call
 sendQueuingMessage k x a q g =
     sending Queuing k x a q g
     (guard (ltb (length (queue k x (arg g 0))) (channel k (arg g 0) .depth))
-        (done (posted k x (arg g 0) (queue k x (arg g 0) ++ (letter x a g ∷ []))))
-        (refused x NotAvailable))
+    (done (posted k x (arg g 0) (queue k x (arg g 0) ++ (letter x a g ∷ []))))
+    (refused x NotAvailable))
 
 -- a receipt by port, address and length: the tests that both types share
 abbrev pub receiving : ChannelKind → Tables → Core → List ℕ → ℕ → List ℕ → Out → Out

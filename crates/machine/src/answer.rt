@@ -65,11 +65,26 @@ impl Answer {
         ensures { λ r. ⌜ r ≡ replyOf (now (self .entry)) .code ⌝ }
     {
         match self {
-            Answer::Done | Answer::Time(_) | Answer::Waiting(_) | Answer::Words { pending: _, mask: _ } | Answer::Byte(_) => 0,
+            Answer::Done
+            | Answer::Time(_)
+            | Answer::Waiting(_)
+            | Answer::Words {
+                pending: _,
+                mask: _,
+            }
+            | Answer::Byte(_) => 0,
             Answer::State(status) => i32::from(status_number(*status)),
-            Answer::Plans { plan, next: _, slotless: _ } => i32::from(*plan),
+            Answer::Plans {
+                plan,
+                next: _,
+                slotless: _,
+            } => i32::from(*plan),
             Answer::Port(port) => i32::from(*port),
-            Answer::Received { length, time: _, left: _ } => i32::from(*length),
+            Answer::Received {
+                length,
+                time: _,
+                left: _,
+            } => i32::from(*length),
             Answer::Logged { left, entry: _ } => i32::from(*left),
             Answer::Outside => 1,
             Answer::Responded(action) => i32::from(action_number(*action)),
@@ -83,13 +98,26 @@ impl Answer {
     {
         match self {
             Answer::Time(time) => (*time, 0),
-            Answer::Plans { plan: _, next, slotless } => (u32::from(*next), *slotless),
-            Answer::Received { length: _, time, left } => (*time, u32::from(*left)),
+            Answer::Plans {
+                plan: _,
+                next,
+                slotless,
+            } => (u32::from(*next), *slotless),
+            Answer::Received {
+                length: _,
+                time,
+                left,
+            } => (*time, u32::from(*left)),
             Answer::Waiting(count) => (u32::from(*count), 0),
             Answer::Words { pending, mask } => (*pending, *mask),
             Answer::Logged { left: _, entry } => (entry.time, pack(entry)),
             Answer::Byte(byte) => (u32::from(*byte), 0),
-            Answer::Done | Answer::State(_) | Answer::Port(_) | Answer::Outside | Answer::Responded(_) | Answer::Refused(_) => (0, 0),
+            Answer::Done
+            | Answer::State(_)
+            | Answer::Port(_)
+            | Answer::Outside
+            | Answer::Responded(_)
+            | Answer::Refused(_) => (0, 0),
         }
     }
 }
@@ -122,5 +150,7 @@ fn status_number(status: Status) -> u8
 fn pack(entry: &Entry) -> u32
     ensures { λ r. ⌜ r ≡ packed (now (entry .entry)) ⌝ }
 {
-    u32::from(entry.partition) + 256 * u32::from(entry.event) + 65536 * u32::from(action_number(entry.action))
+    u32::from(entry.partition)
+        + 256 * u32::from(entry.event)
+        + 65536 * u32::from(action_number(entry.action))
 }

@@ -8,13 +8,33 @@ pub type Args = [u32; 5];
 /// An event: one of seven sorts, each with its own numbers.
 #[derive(Clone, Copy)]
 pub enum Event {
-    Tick { time: Time },
-    Call { partition: u8, number: u8, args: Args },
-    Load { partition: u8, offset: u32 },
-    Store { partition: u8, offset: u32, byte: u8 },
-    Fault { partition: u8, event: u8 },
-    Line { line: u8 },
-    SystemFault { event: u8 },
+    Tick {
+        time: Time,
+    },
+    Call {
+        partition: u8,
+        number: u8,
+        args: Args,
+    },
+    Load {
+        partition: u8,
+        offset: u32,
+    },
+    Store {
+        partition: u8,
+        offset: u32,
+        byte: u8,
+    },
+    Fault {
+        partition: u8,
+        event: u8,
+    },
+    Line {
+        line: u8,
+    },
+    SystemFault {
+        event: u8,
+    },
 }
 
 /// The calls, by their numbers from 0.

@@ -21,7 +21,11 @@ impl Message {
     pub fn blank() -> Message
         ensures { λ r. ⌜ r ≡ blank ⌝ }
     {
-        Message { bytes: [0; LONGEST], length: 0, time: 0 }
+        Message {
+            bytes: [0; LONGEST],
+            length: 0,
+            time: 0,
+        }
     }
 
     /// How many bytes it has.

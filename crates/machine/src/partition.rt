@@ -165,7 +165,7 @@ impl Partition {
     {
         if let Status::Idle = self.status {
             if due {
-                self.status = Status::Ready;
+                self.resume();
             }
         }
     }

@@ -139,11 +139,13 @@ module _ (t : Tables) (f : Shared t) (x : Port) (here : x .channel ≡ t .channe
   left =
       let k = openChannel t .kind in
       let n = openChannel t .ports in
-      let w = or-parts (leb 32 (t .ports .count)) (isQueuing k && leb 2 n) room in
-      (omega (arith, leb-false 32 (t .ports .count) (w .0)), λ e. elim (and-cases (isQueuing k) (leb 2 n) (w .1)) [
-        | inl z ↦ absurd (both-ways (isQueuing k) z (ap isQueuing e))
-        | inr z ↦ leb-false 2 n z
-      ])
+      let w = or-parts (leb 32 (t .ports .count)) (isQueuing k && leb 2 n) room in (
+        omega (arith, leb-false 32 (t .ports .count) (w .0)),
+        λ e. elim (and-cases (isQueuing k) (leb 2 n) (w .1)) [
+          | inl z ↦ absurd (both-ways (isQueuing k) z (ap isQueuing e))
+          | inr z ↦ leb-false 2 n z
+        ],
+      )
 
   -- a source meets no source
   no-source : (i : ℕ) → i < t .ports .count → portAt t i .channel ≡ t .channels .count - 1 → portAt t i .direction ≡ Source → x .direction ≡ Source → ⊥

@@ -15,10 +15,11 @@ add-sum c = omega (arith, ends c, c .loop-i .inv .1, c .pre .sound .2, c .satura
 
 pub loop-i-again : need.loop-i-again
 loop-i-again c =
-    let m = gaps-more (c .args .plan .now .slots) (c .args .plan .now .count) (c .args .plan .now .frame) (c .loop-i .i) (c .loop-i .end) (c .loop-i-test .taken) (omega arith) in
-    ( omega (arith, m, c .loop-i .inv .0, c .saturating-sub-sum .ensures)
-    , omega (arith, ends c, c .loop-i .inv .1, c .saturating-sub-sum .ensures)
-    , ends c )
+    let m = gaps-more (c .args .plan .now .slots) (c .args .plan .now .count) (c .args .plan .now .frame) (c .loop-i .i) (c .loop-i .end) (c .loop-i-test .taken) (omega arith) in (
+      omega (arith, m, c .loop-i .inv .0, c .saturating-sub-sum .ensures),
+      omega (arith, ends c, c .loop-i .inv .1, c .saturating-sub-sum .ensures),
+      ends c,
+    )
 
 pub returns : need.returns
 returns c =

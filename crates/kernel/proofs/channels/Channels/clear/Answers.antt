@@ -12,11 +12,11 @@ returns c =
     let h = c .args .self .now in
     let i = c .args .c in
     let cells = getD (h .cells) i [] in
-    record
-    { sound =
-        rings-set h i (c .clear .last .self) cells (omega arith) (omega arith) (c .pre .sound)
-        (c .pre .sound i (c .pre .channel) .0, c .clear .ensures .sound)
-    ; is =
-        views-set (h .queues) (h .cells) i (c .clear .last .self) cells
-        ∙ ap (λ xs. set (chansOf h) i (map letterOf xs)) (c .clear .ensures .is)
+    record {
+      sound =
+          rings-set h i (c .clear .last .self) cells (omega arith) (omega arith) (c .pre .sound)
+          (c .pre .sound i (c .pre .channel) .0, c .clear .ensures .sound);
+      is =
+          views-set (h .queues) (h .cells) i (c .clear .last .self) cells
+          ∙ ap (λ xs. set (chansOf h) i (map letterOf xs)) (c .clear .ensures .is);
     }

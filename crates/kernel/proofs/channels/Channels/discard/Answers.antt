@@ -13,14 +13,14 @@ returns c =
     let h = c .args .self .now in
     let i = c .args .c in
     let cells = getD (h .cells) i [] in
-    record
-    { sound =
-        rings-set h i (c .pop .last .self) cells (omega arith) (omega arith) (c .pre .sound)
-        (c .pre .sound i (c .pre .channel) .0, c .pop .ensures .sound)
-    ; is =
-        views-set (h .queues) (h .cells) i (c .pop .last .self) cells
-        ∙ (ap (λ xs. set (chansOf h) i (map letterOf xs)) (c .pop .ensures .left)
-        ∙ (ap (set (chansOf h) i) (rest-letters (entries (getD (h .queues) i empty) cells))
-        ∙ ap (λ (xs : List Letter). set (chansOf h) i (rest xs)) (sym (views-at (h .queues) (h .cells) i))))
-    ; left = omega (arith, c .saturating-sub .ensures, c .count-count .ensures .is, length-rest (chanOf h i))
+    record {
+      sound =
+          rings-set h i (c .pop .last .self) cells (omega arith) (omega arith) (c .pre .sound)
+          (c .pre .sound i (c .pre .channel) .0, c .pop .ensures .sound);
+      is =
+          views-set (h .queues) (h .cells) i (c .pop .last .self) cells
+          ∙ (ap (λ xs. set (chansOf h) i (map letterOf xs)) (c .pop .ensures .left)
+          ∙ (ap (set (chansOf h) i) (rest-letters (entries (getD (h .queues) i empty) cells))
+          ∙ ap (λ (xs : List Letter). set (chansOf h) i (rest xs)) (sym (views-at (h .queues) (h .cells) i))));
+      left = omega (arith, c .saturating-sub .ensures, c .count-count .ensures .is, length-rest (chanOf h i));
     }
