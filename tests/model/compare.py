@@ -1,7 +1,7 @@
 #!/usr/bin/env python3
 """Compares a script program with the model, byte for byte.
 
-    compare.py PROGRAM [--seed S] [--count N] [--seconds T] [--delivery 1]
+    compare.py PROGRAM [--seed S] [--count N] [--seconds T]
 
 Runs every directed script and then N random ones; T seconds end it earlier.  A script
 that is answered differently is kept in a file.  Everything that can occur has to be
@@ -21,7 +21,7 @@ import script
 from coverage import Coverage
 from events import in_words
 from generate import scripts
-from limits import DELIVERIES, Limits, add_delivery_option
+from limits import WHOLE, Limits
 from scenarios import directed
 
 PATIENCE = 60  # seconds for one run of the program
@@ -107,10 +107,9 @@ def main() -> int:
     parser.add_argument("--keep", type=Path,
                         default=Path(tempfile.gettempdir()) / "differing-scripts",
                         help="where scripts that differ are written")
-    add_delivery_option(parser)
     options = parser.parse_args()
 
-    limits = DELIVERIES[options.delivery]
+    limits = WHOLE
     comparison = Comparison(options.program, limits, options.keep)
     begun = time.monotonic()
     most = sum(1 for _ in directed(limits)) + options.count

@@ -1,7 +1,7 @@
 #!/usr/bin/env python3
 """Writes scripts: good and spoiled vectors, histories of events, malformed input.
 
-    generate.py --seed 7 --count 100 --out DIRECTORY [--delivery 1]
+    generate.py --seed 7 --count 100 --out DIRECTORY
 
 The same seed always gives the same scripts.
 """
@@ -18,7 +18,7 @@ import encode
 import scenarios
 from design import design
 from events import Event
-from limits import DELIVERIES, Limits, add_delivery_option
+from limits import WHOLE, Limits
 from player import Player
 from spoil import spoiled
 
@@ -84,10 +84,9 @@ def main() -> None:
     parser.add_argument("--seed", type=int, default=1)
     parser.add_argument("--count", type=int, default=100)
     parser.add_argument("--out", type=Path, required=True)
-    add_delivery_option(parser)
     options = parser.parse_args()
     options.out.mkdir(parents=True, exist_ok=True)
-    limits = DELIVERIES[options.delivery]
+    limits = WHOLE
     for name, data in islice(scripts(options.seed, limits), options.count):
         (options.out / f"{name}.bin").write_bytes(data)
 

@@ -1,9 +1,4 @@
-"""How much of the rules is switched on.
-
-The whole rules are the default.  The first delivery of the product knows fewer
-record kinds and only one call; deleting FIRST_DELIVERY and the --delivery option
-is all it takes to be rid of the switch.
-"""
+"""How far the numbers of record kinds and calls go."""
 
 from __future__ import annotations
 
@@ -17,12 +12,3 @@ class Limits:
 
 
 WHOLE = Limits(kinds=9, calls=25)
-FIRST_DELIVERY = Limits(kinds=4, calls=1)
-
-DELIVERIES = {"1": FIRST_DELIVERY, "full": WHOLE}
-
-
-def add_delivery_option(parser) -> None:
-    """Gives an argument parser the option --delivery."""
-    parser.add_argument("--delivery", choices=DELIVERIES, default="full",
-                        help="which part of the rules is switched on")

@@ -15,7 +15,7 @@ from circle import circle, circle_mask
 from design import design
 from dramas import FOUR, A, B, S, T
 from events import Answer, Call, Fault, Line, Load, Store, SystemFault, Tick
-from limits import FIRST_DELIVERY, WHOLE
+from limits import WHOLE
 from machine import System, boot
 from stage import Stage
 from state import State
@@ -41,9 +41,8 @@ class WorkedExamples(unittest.TestCase):
     def test_script(self):
         events = [Tick(5), Call(0, 0), Load(0, 16), Call(0, 0)]
         lines = "0 0 0\n0 5 0\n1 0 0\n-9 0 0\n"
-        for limits in (WHOLE, FIRST_DELIVERY):
-            run = script.run(encode.script(EXAMPLE, events), limits)
-            self.assertEqual(run.text(), f"fenced\n{lines}paged\n{lines}")
+        run = script.run(encode.script(EXAMPLE, events), WHOLE)
+        self.assertEqual(run.text(), f"fenced\n{lines}paged\n{lines}")
 
     def test_example_vector(self):
         self.assertIsNone(refusal(EXAMPLE))
@@ -210,10 +209,9 @@ class Rules(unittest.TestCase):
 class Designs(unittest.TestCase):
 
     def test_designed_vectors_are_taken(self):
-        for limits in (WHOLE, FIRST_DELIVERY):
-            for seed in range(500):
-                vector = encode.vector(design(Random(seed), limits))
-                self.assertIsNone(refusal(vector, limits), seed)
+        for seed in range(500):
+            vector = encode.vector(design(Random(seed), WHOLE))
+            self.assertIsNone(refusal(vector, WHOLE), seed)
 
 
 if __name__ == "__main__":
