@@ -1,7 +1,7 @@
 #!/usr/bin/env python3
 """Writes scripts: good and spoiled vectors, histories of events, malformed input.
 
-    generate.py --seed 7 --count 100 --out DIRECTORY
+    generate.py --seed SEED --count 100 --out DIRECTORY
 
 The same seed always gives the same scripts.
 """
