@@ -2,7 +2,7 @@
 use Prim.Native.Nat.{ℕ, zero, suc, _+_, _-_, _≤_}
 use mathlib.Core.Path.{_≡_}
 use mathlib.Core.Bool.{Bool, true, false, _&&_, _||_}
-use mathlib.Core.List.{[]}
+use mathlib.Core.List.{List, [], _∷_}
 use lib.Dec.{eqb}
 use lib.IntN.{negsuc}
 use lib.ListN.{length, getD}
@@ -16,6 +16,8 @@ use Rattle.machine.specs.declared.clock.Clock.{Clock}
 use Rattle.machine.specs.declared.partition.Status.the-variants.{Halted, Ready}
 use Rattle.machine.specs.declared.event.Event.{Event}
 use Rattle.machine.specs.declared.event.Event.the-variants.{Tick, Call, Load, Store, Fault, Line, SystemFault}
+use Rattle.machine.specs.declared.log.Entry.{Entry}
+use Rattle.machine.specs.Letters.{Letter}
 use Rattle.machine.specs.Partitions.{nobody}
 use Rattle.machine.specs.Questions.{exists, isSystem, plan, slotsOf, holder}
 use Rattle.machine.specs.State.{Core, State}
@@ -44,12 +46,38 @@ roomOf Queuing d = d
 abbrev pub room : Tables → ℕ → ℕ
 room k c = roomOf (getD (k .channels .rows) c channel0 .kind) (getD (k .channels .rows) c channel0 .depth)
 
--- What no run leaves: for a HALTED partition nothing is pending, the log has at most 32 entries,
--- and no channel holds more than it has room for.
+-- each message has 1 to n bytes
+abbrev pub Sized : ℕ → List Letter → Type 0
+Sized n [] = Unit {0}
+Sized n (m ∷ ms) = ((1 ≤ length (m .bytes)) × (length (m .bytes) ≤ n)) × Sized n ms
+
+-- the longest message that a channel takes
+abbrev pub longest : Tables → ℕ → ℕ
+longest k c = getD (k .channels .rows) c channel0 .longest
+
+-- each entry is from the time t or later, and from a time up to t
+abbrev pub Since : ℕ → List Entry → Type 0
+Since t [] = Unit {0}
+Since t (e ∷ es) = (t ≤ e .time) × Since t es
+
+abbrev pub Until : ℕ → List Entry → Type 0
+Until t [] = Unit {0}
+Until t (e ∷ es) = (e .time ≤ t) × Until t es
+
+-- entries in the order of their times
+abbrev pub InOrder : List Entry → Type 0
+InOrder [] = Unit {0}
+InOrder (e ∷ es) = Since (e .time) es × InOrder es
+
+-- What every run keeps: for a HALTED partition nothing is pending, the log has at most 32 entries, in the order of their times
+-- and none from the future, and no channel holds more messages than it has room for, or a message of another size.
 pub record Bounded (k : Tables) (x : Core) : Type 0 where
   pub halted : (q : ℕ) → getD (x .parts) q nobody .status ≡ Halted → getD (x .parts) q nobody .pending ≡ 0
   pub log : length (x .log) ≤ 32
+  pub order : InOrder (x .log)
+  pub past : Until (x .clock .time) (x .log)
   pub chans : (c : ℕ) → length (getD (x .chans) c []) ≤ room k c
+  pub sized : (c : ℕ) → Sized (longest k c) (getD (x .chans) c [])
 
 -- does the frame end with the next microsecond
 abbrev pub frameEnds : Plans → Clock → Bool
