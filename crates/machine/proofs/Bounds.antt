@@ -253,9 +253,10 @@ module _ (k : Tables) (x : Core) (r : Sane k x) where
       (λ l. safe-core k _ _ (posted-sane (arg g 0) (Ports.queue k x (arg g 0) ++ (Ports.letter x a g ∷ []))
       (let n = room-queuing (channel k (arg g 0) .kind) (channel k (arg g 0) .depth) (length (Ports.queue k x (arg g 0)))
       (kind-of k x q Queuing (arg g 0) _ e) (ltb-true _ _ l) in
-      let z = letter-sized k x a q Queuing g e in
-      ( omega (arith, length-append (Ports.queue k x (arg g 0)) (Ports.letter x a g ∷ []))
-      , sized-push _ (Ports.queue k x (arg g 0)) (Ports.letter x a g) (z .0) (z .1) (r .chans (channelOf k (arg g 0)) .1) ))))
+      let z = letter-sized k x a q Queuing g e in (
+        omega (arith, length-append (Ports.queue k x (arg g 0)) (Ports.letter x a g ∷ [])),
+        sized-push _ (Ports.queue k x (arg g 0)) (Ports.letter x a g) (z .0) (z .1) (r .chans (channelOf k (arg g 0)) .1),
+      ))))
       (λ _. search sane))
       (λ _. search sane))
       (λ _. search sane)

@@ -1,17 +1,20 @@
 -- What is left after the first bytes of a slice pattern, and the cut of a record.
-use mathlib.Core.Path.{_≡_, sym, ap, subst, _∙_}
+use mathlib.Core.Path.{_≡_, refl, sym, ap, ap₂, subst, _∙_}
 use mathlib.Core.Bool.{true, cond}
-use mathlib.Core.List.{List}
+use mathlib.Core.List.{List, _∷_, _++_}
 use Prim.Native.Nat.{ℕ, _+_, _-_, _≤_}
 use native.Mathlib.Omega.{arith}
-use lib.ListN.{length, take, drop, length-drop}
+use lib.ListN.{length, getD, take, drop, length-drop, take-append-drop}
 use lib.Dec.{ltb}
-use lib.Seq.{take-all, length-take-le}
+use lib.Seq.{take-all, drop-drop, length-take-le}
 use Rattle.std.proofs.shelf.Tests.{le-ltb, ltb-false}
 use Rattle.vector.specs.Reasons.{pastEnd, wrongLength}
+use Rattle.vector.specs.Encoding.{Bytes, two}
 use Rattle.vector.specs.Out.{fine, bad, then}
 use Rattle.vector.specs.Frames.{word16, suits, kindOf, cutAt, Framed, framed}
+use Rattle.vector.specs.Turns.{kindNumber}
 use Rattle.vector.specs.declared.record.Kind.{Kind}
+use Rattle.vector.proofs.Numbers.{kind-number, two-of, open-4}
 use Rattle.vector.proofs.Outs.{then-fine, cond-fine, cond-bad}
 
 -- the rest of a slice pattern with n names before it
@@ -29,6 +32,15 @@ pub record CutOff (bs : List ℕ) (f : Framed) : Type 0 where
   pub rest : f .rest ≡ drop (4 + length (f .body)) bs
   pub size : 4 + length (f .body) + length (f .rest) ≡ length bs
   pub suited : suits (f .kind) (length (f .body)) ≡ true
+  pub bytes : Bytes bs → bs ≡ two (length (f .body)) ++ (two (kindNumber (f .kind)) ++ (f .body ++ f .rest))
+
+-- the bytes of a record with a body of n bytes
+head : (bs : List ℕ) (n k : ℕ) → 4 + n ≤ length bs → word16 bs 0 ≡ n → word16 bs 2 ≡ k → Bytes bs → bs ≡ two n ++ (two k ++ (take n (drop 4 bs) ++ drop (4 + n) bs))
+head bs n k h e f y =
+    let l = sym (two-of (getD bs 0 0) (getD bs 1 0) (y 0)) ∙ ap two e in
+    let m = sym (two-of (getD bs 2 0) (getD bs 3 0) (y 2)) ∙ ap two f in
+    let d : drop 4 bs ≡ take n (drop 4 bs) ++ drop (4 + n) bs = sym (take-append-drop n (drop 4 bs)) ∙ ap (λ r. take n (drop 4 bs) ++ r) (drop-drop n 4 bs) in
+    open-4 bs (omega arith) ∙ (ap (λ r. getD bs 0 0 ∷ getD bs 1 0 ∷ getD bs 2 0 ∷ getD bs 3 0 ∷ r) d ∙ ap₂ (λ x z. x ++ (z ++ (take n (drop 4 bs) ++ drop (4 + n) bs))) l m)
 
 pub cut-off : (at : ℕ) (bs : List ℕ) (f : Framed) → framed at bs ≡ fine f → CutOff bs f
 cut-off at bs f e =
@@ -42,4 +54,4 @@ cut-off at bs f e =
     let long : 4 + n ≤ length bs = ltb-false (length bs) (4 + n) (b .0) in
     let l : length (take n (drop 4 bs)) ≡ n = length-take-le n (drop 4 bs) (omega (arith, length-drop 4 bs)) in
     let z : 4 + length (take n (drop 4 bs)) + length (drop (4 + n) bs) ≡ length bs = omega (arith, length-drop (4 + n) bs) in
-    subst (CutOff bs) q (record { rest = ap (λ m. drop (4 + m) bs) (sym l); size = z; suited = ap (suits (k .0)) l ∙ c .0 })
+    subst (CutOff bs) q (record { rest = ap (λ m. drop (4 + m) bs) (sym l); size = z; suited = ap (suits (k .0)) l ∙ c .0; bytes = λ y. head bs n (kindNumber (k .0)) long refl (kind-number at (word16 bs 2) (k .0) (k .1)) y ∙ ap (λ m. two m ++ (two (kindNumber (k .0)) ++ (take n (drop 4 bs) ++ drop (4 + n) bs))) (sym l) })

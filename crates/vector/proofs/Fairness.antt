@@ -1,97 +1,135 @@
--- The tables of a vector that is taken are fair.
-use mathlib.Core.Path.{_≡_, refl, subst}
-use mathlib.Core.Bool.{true, false}
-use mathlib.Core.List.{List}
-use Prim.Native.Nat.{ℕ, _-_, _≤_, _<_}
+-- What the core rests on follows from the laws of a taken vector.
+use mathlib.Core.Bool.{Bool, true, false, cond}
+use mathlib.Core.List.{List, [], _∷_}
+use mathlib.Core.Logic.{⊎-elim}
+use mathlib.Core.Path.{_≡_, refl, sym, ap, subst, _∙_}
+use Prim.Native.Nat.{ℕ, zero, suc, _+_, _≤_, _<_}
 use native.Mathlib.Omega.{arith}
-use lib.ListN.{length}
-use Rattle.std.proofs.shelf.Tests.{and-parts, leb-true, ltb-true, false≢true}
-use Rattle.vector.specs.Blank.{channel0}
-use Rattle.vector.specs.Fair.{Fair}
-use Rattle.vector.specs.Out.{Out, fine, bad, then}
-use Rattle.vector.specs.Frames.{suits}
-use Rattle.vector.specs.Bodies.{Said, header, partition, plan, slot, channel, port, ipvi, line, action}
-use Rattle.vector.specs.Rows.{blank, channelWith, openPlan}
-use Rattle.vector.specs.Sofars.{nothing}
-use Rattle.vector.specs.Turns.{inTurn}
-use Rattle.vector.specs.Joins.{joined}
-use Rattle.vector.specs.Rooms.{Room}
-use Rattle.vector.specs.Reading.{heard, followed, reading, gathered, takes, taken, refused, verdictOf, tables}
-use Rattle.vector.specs.declared.record.Kind.{Kind}
-use Rattle.vector.specs.declared.record.Kind.the-variants.{Plan, Slot, Port}
-use Rattle.vector.specs.declared.record.Scope.the-variants as scopes
+use lib.Dec.{eqb}
+use lib.ListN.{length, getD, take}
+use Rattle.std.proofs.shelf.Lists.{getD-take, length-take}
+use Rattle.std.proofs.shelf.Tests.{cases-lt, cond-true, eq-eqb}
+use Rattle.vector.specs.Blank.{port0}
+use Rattle.vector.specs.Fair.{Share, AllWithin, Connected, OneSource, OneDestination, Fair}
+use Rattle.vector.specs.Joins.{isQueuing}
+use Rattle.vector.specs.Laws as laws
+use Rattle.vector.specs.Laws.{portsOf, Lawful}
+use Rattle.vector.specs.Out.{fine}
+use Rattle.vector.specs.Reading.{reading, gathered, takes, tables}
 use Rattle.vector.specs.declared.sofar.Sofar.{Sofar}
-use Rattle.vector.specs.declared.tables.Channel.{Channel}
-use Rattle.vector.specs.declared.tables.ChannelKind.the-variants.{Sampling}
+use Rattle.vector.specs.declared.tables.ChannelKind.{ChannelKind}
+use Rattle.vector.specs.declared.tables.ChannelKind.the-variants.{Sampling, Queuing}
+use Rattle.vector.specs.declared.tables.Direction.{Direction}
+use Rattle.vector.specs.declared.tables.Direction.the-variants.{Source, Destination}
+use Rattle.vector.specs.declared.tables.Port.{Port}
 use Rattle.vector.specs.declared.tables.Tables.{Tables}
-use Rattle.vector.proofs.Lists.{all-alike}
 use Rattle.vector.proofs.Outs.{then-fine, same-fine}
-use Rattle.vector.proofs.Told.{Told}
-use Rattle.vector.proofs.Joined.{after, portIn, Related, joined-fine}
-use Rattle.vector.proofs.Rooms.{in-turn, room-after}
-use Rattle.vector.proofs.Heard.{was-told}
-use Rattle.vector.proofs.Keeps.{Kept}
+use Rattle.vector.proofs.Keeps.{taken-keeps}
 use Rattle.vector.proofs.Fits.{Fit, fit-kept, fit-nothing}
-use Rattle.vector.proofs.Follows.{Directed, heard-directed, scan-keeps}
-use Rattle.vector.proofs.Shares.{Shared, shared-blank, shared-still, shared-plan, shared-slot, shared-channel, shared-port}
+use Rattle.vector.proofs.Laws.{read-lawful, taken-read}
 
--- each record keeps the tables fair so far
-shared-after : (s : Sofar) (k : Kind) (x : Said) → Room s → Fit s → inTurn k s ≡ true → Told k s x → Directed s x → Related s x → Shared (s .tables) → Shared (after s x .tables)
-shared-after s k (header n m) r f i w d j h = h
-shared-after s k (partition c z n) r f i w d j h = shared-still (s .tables) h _ _ _
-shared-after s k (plan g) r f i w d j h =
-    let a : s .tables .plans .count < s .plans = ltb-true _ _ (and-parts _ _ (in-turn s k Plan (w .0) i .1) .1) in
-    shared-plan (s .tables) h g (omega (arith, r .0 .0 .1, f .plans .size))
-shared-after s k (slot p b l) r f i w d j h =
-    let a : 1 ≤ s .tables .plans .count = leb-true _ _ (in-turn s k Slot (w .0) i .1) in
-    let o : length (openPlan (s .tables) .slots) ≡ 16 = f .plans .each (s .tables .plans .count - 1) (omega arith) .1 in
-    shared-slot (s .tables) h (record { partition = p; start = b; duration = l }) a (omega (arith, j .0)) (j .2)
-shared-after s k (channel c l z) r f i w d j h = shared-channel (s .tables) h (channelWith c l z)
-shared-after s k (port p e n) r f i w d j h =
-    let a : 1 ≤ s .tables .channels .count = leb-true _ _ (in-turn s k Port (w .0) i .1) in
-    shared-port (s .tables) h (portIn s p e n) refl (d p e n refl) a (omega (arith, r .2 .0, f .channels .size)) (f .ports .size) (j .0)
-shared-after s k (ipvi n p m) r f i w d j h = shared-still (s .tables) h _ _ _
-shared-after s k (line l p) r f i w d j h = shared-still (s .tables) h _ _ _
-shared-after s k (action (scopes.Partition p) e a l) r f i w d j h = shared-still (s .tables) h _ _ _
-shared-after s k (action scopes.System e a l) r f i w d j h = shared-still (s .tables) h _ _ _
+not-both : (d : Direction) → d ≡ Source → d ≡ Destination → ⊥
+not-both d a b = let z : _≡_ {A = ℕ} 0 1 = cc in omega arith
 
--- what all records keep together
-abbrev Held : Sofar → Type 0
-Held s = Room s × Fit s × Shared (s .tables)
+-- a port of channel c at place i counts, and so do those before and after it
+module _ (c : ℕ) where
+  one : (p : Port) → p .channel ≡ c → _≡_ {A = ℕ} (cond (eqb (p .channel) c) 1 0) 1
+  one p e = cond-true _ _ _ (eq-eqb _ _ e)
 
-held-after : (at : ℕ) (s t : Sofar) (k : Kind) (b : List ℕ) → suits k (length b) ≡ true → followed at s k b ≡ fine t → Held s → Held t
-unfolding Kept
-held-after at s t k b u e h =
-    let x = then-fine (heard at s k b) (joined at s) t e in
-    let y = x .0 in
-    let w = was-told at s k b y u (x .1) in
-    let j = joined-fine at s t y (x .2) in
-    let d = heard-directed at s k b y u (x .1) in
-    let new : Held (after s y) = (
-      room-after s k y (h .0) (w .0) (w .1) (j .0),
-      fit-kept s k y (h .0) (w .0) (w .1) (j .0) (h .1),
-      shared-after s k y (h .0) (h .1) (w .0) (w .1) d (j .0) (h .2),
-    ) in
-    subst Held (j .1) new
+  counts-one : (ps : List Port) (i : ℕ) → i < length ps → getD ps i port0 .channel ≡ c → 1 ≤ portsOf c ps
+  counts-one [] i h e = absurd (omega arith)
+  counts-one (p ∷ ps) zero h e = omega (arith, one p e)
+  counts-one (p ∷ ps) (suc i) h e = let n = counts-one ps i (omega arith) e in omega arith
 
-room-nothing : Room nothing
-room-nothing = (((omega arith, omega arith), λ e. (refl, refl)), (omega arith, omega arith), (omega arith, λ i. all-alike (λ (c : Channel). c .ports ≤ 0) 8 i (channelWith Sampling 0 0) channel0 (omega arith) (omega arith)))
+  counts-two : (ps : List Port) (i j : ℕ) → i < j → j < length ps → getD ps i port0 .channel ≡ c → getD ps j port0 .channel ≡ c → 2 ≤ portsOf c ps
+  counts-two [] i j l h e f = absurd (omega arith)
+  counts-two (p ∷ ps) i zero l h e f = absurd (omega arith)
+  counts-two (p ∷ ps) zero (suc j) l h e f = let n = counts-one ps j (omega arith) f in omega (arith, one p e)
+  counts-two (p ∷ ps) (suc i) (suc j) l h e f = let n = counts-two ps i j (omega arith) (omega arith) e f in omega arith
 
-held-nothing : Held nothing
-held-nothing = (room-nothing, fit-nothing, shared-blank)
+  counts-three : (ps : List Port) (i j k : ℕ) → i < j → j < k → k < length ps →
+      getD ps i port0 .channel ≡ c → getD ps j port0 .channel ≡ c → getD ps k port0 .channel ≡ c → 3 ≤ portsOf c ps
+  counts-three [] i j k l m h e f g = absurd (omega arith)
+  counts-three (p ∷ ps) i j zero l m h e f g = absurd (omega arith)
+  counts-three (p ∷ ps) i zero (suc k) l m h e f g = absurd (omega arith)
+  counts-three (p ∷ ps) zero (suc j) (suc k) l m h e f g = let n = counts-two ps j k (omega arith) (omega arith) f g in omega (arith, one p e)
+  counts-three (p ∷ ps) (suc i) (suc j) (suc k) l m h e f g = let n = counts-three ps i j k (omega arith) (omega arith) (omega arith) e f g in omega arith
 
--- the tables that a vector gives are fair
+module _ (t : Tables) (l : Lawful t) (size : t .ports .count ≤ length (t .ports .rows)) where
+  within : AllWithin (t .plans)
+  within i h j k = l .slots i h .1 j k .ends
+
+  connected : Connected t
+  connected i h = l .belong i h .1
+
+  -- the later of two ports of one channel is no source
+  one-source : OneSource t
+  one-source i j s a b =
+      ⊎-elim
+      (λ (h : i < j). absurd (not-both _ b (l .first i j h (s .1) (s .2) .0)))
+      (λ (h : j ≤ i).
+      ⊎-elim
+      (λ (m : j < i). absurd (not-both _ a (l .first j i m (s .0) (sym (s .2)) .0)))
+      (λ (m : i ≤ j). omega arith)
+      (cases-lt j i))
+      (cases-lt i j)
+
+  -- a source stands before every destination of its channel
+  source-before : (i s : ℕ) → i < t .ports .count → s < t .ports .count → laws.portAt i t .channel ≡ laws.portAt s t .channel →
+      laws.portAt i t .direction ≡ Destination → laws.portAt s t .direction ≡ Source → s < i
+  source-before i s h k e a b =
+      ⊎-elim
+      (λ (m : s < i). m)
+      (λ (m : i ≤ s).
+      ⊎-elim
+      (λ (n : i < s). absurd (not-both _ b (l .first i s n k e .0)))
+      (λ (n : s ≤ i). absurd (let z : i ≡ s = omega arith in not-both _ b (subst (λ n. laws.portAt n t .direction ≡ Destination) z a)))
+      (cases-lt i s))
+      (cases-lt s i)
+
+  counted : (i : ℕ) → i < t .ports .count → getD (take (t .ports .count) (t .ports .rows)) i port0 .channel ≡ laws.portAt i t .channel
+  counted i h = ap (λ (p : Port). p .channel) (getD-take (t .ports .count) (t .ports .rows) i port0 h)
+
+  -- of a queuing channel's two ports one is the source
+  not-after : (i j : ℕ) → i < j → j < t .ports .count → laws.portAt i t .channel ≡ laws.portAt j t .channel →
+      isQueuing (laws.channelAt (laws.portAt i t .channel) t .kind) ≡ true → laws.portAt i t .direction ≡ Destination → ⊥
+  not-after i j m k e q a =
+      let c = laws.portAt i t .channel in
+      let b = connected i (omega arith) in
+      let s = l .sources c b in
+      let n = l .counted c b in
+      let h = source-before i (s .0) (omega arith) (s .1 .0) (sym (s .1 .1)) a (s .1 .2) in
+      let three = counts-three c (take (t .ports .count) (t .ports .rows)) (s .0) i j h m
+      (omega (arith, length-take (t .ports .count) (t .ports .rows)))
+      (counted (s .0) (s .1 .0) ∙ s .1 .1) (counted i (omega arith)) (counted j k ∙ sym e) in
+      omega (arith, n .0, n .2 q, three)
+
+  queues : (d : ChannelKind) → d ≡ Queuing → isQueuing d ≡ true
+  queues d e = ap isQueuing e
+
+  one-destination : OneDestination t
+  one-destination i j s q a b =
+      ⊎-elim
+      (λ (h : i < j). absurd (not-after i j h (s .1) (s .2) (queues _ q) a))
+      (λ (h : j ≤ i).
+      ⊎-elim
+      (λ (m : j < i). absurd (not-after j i m (s .0) (sym (s .2)) (subst (λ c. isQueuing (laws.channelAt c t .kind) ≡ true) (s .2) (queues _ q)) b))
+      (λ (m : i ≤ j). omega arith)
+      (cases-lt j i))
+      (cases-lt i j)
+
+  pub lawful-fair : Fair t
+  lawful-fair = (within, connected, one-source, one-destination)
+
+read-fair : (bs : List ℕ) (s : Sofar) → reading bs ≡ fine s → Fair (s .tables)
+read-fair bs s e =
+    let w = taken-keeps Fit fit-kept fit-nothing bs s e .0 .1 .wires in
+    lawful-fair (s .tables) (read-lawful bs s e .1) (omega (arith, w .size, w .few))
+
 pub gathered-fair : (bs : List ℕ) (t : Tables) → gathered bs ≡ fine t → Fair t
 gathered-fair bs t e =
     let s = then-fine (reading bs) (λ s. fine (s .tables)) t e in
-    let h = scan-keeps Held held-after 0 0 nothing (s .0) bs held-nothing (s .1) .2 in
-    same-fine Fair (s .0 .tables) t (s .2) (h .within, h .connected, h .sources, h .destinations)
-
--- and a vector that is taken gives them
-taken-gives : (o : Out Sofar) → elim (verdictOf o) [ taken ↦ true | refused l n p ↦ false ] ≡ true → ((t : Tables) → then o (λ s. fine (s .tables)) ≡ fine t → Fair t) →
-    Fair (elim (then o (λ s. fine (s .tables))) [ fine t ↦ t | bad r ↦ blank ])
-taken-gives (fine s) e f = f (s .tables) refl
-taken-gives (bad r) e f = absurd (false≢true e)
+    same-fine Fair (s .0 .tables) t (s .2) (read-fair bs (s .0) (s .1))
 
 pub takes-fair : (bs : List ℕ) → takes bs ≡ true → Fair (tables bs)
-takes-fair bs e = taken-gives (reading bs) e (gathered-fair bs)
+takes-fair bs e = let o = taken-read bs e in subst Fair (o .1 .1) (read-fair bs (o .0) (o .1 .0))

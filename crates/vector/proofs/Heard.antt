@@ -8,6 +8,7 @@ use Rattle.vector.specs.Reasons.{outOfTurn}
 use Rattle.vector.specs.Out.{fine}
 use Rattle.vector.specs.Frames.{suits}
 use Rattle.vector.specs.Bodies.{Said, saidBy}
+use Rattle.vector.specs.Encoding.{Bytes, bodyOf}
 use Rattle.vector.specs.Turns.{inTurn, turned}
 use Rattle.vector.specs.Joins.{joined, Ready}
 use Rattle.vector.specs.Rooms.{Room}
@@ -23,7 +24,10 @@ module _ (at : ℕ) (s : Sofar) (k : Kind) (b : List ℕ) (x : Said) (h : suits 
   pub was-told : (inTurn k s ≡ true) × Told k s x
   was-told =
       let p = pass-fine (turned at k s) (saidBy k s (at + 4) b) x e in
-      (cond-fine (inTurn k s) (fine tt) (outOfTurn at) (p .0) (p .1) .0, told s (at + 4) b k x h (p .2))
+      (cond-fine (inTurn k s) (fine tt) (outOfTurn at) (p .0) (p .1) .0, told s (at + 4) b k x h (p .2) .0)
+
+  pub body-written : Bytes b → b ≡ bodyOf x
+  body-written y = told s (at + 4) b k x h (pass-fine (turned at k s) (saidBy k s (at + 4) b) x e .2) .1 y
 
   pub heard-ready : Room s → Ready s x
   heard-ready r = let w = was-told in ready-for s k x r (w .0) (w .1)

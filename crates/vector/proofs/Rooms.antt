@@ -13,6 +13,7 @@ use Rattle.vector.specs.Bodies.{Said, header, partition, plan, slot, channel, 
 use Rattle.vector.specs.Rows.{channelWith, openChannel, ported}
 use Rattle.vector.specs.Turns.{follows, ready, inTurn}
 use Rattle.vector.specs.Joins.{InScope, Ready}
+use Rattle.vector.specs.Ranges.{EventIn}
 use Rattle.vector.specs.Rooms.{Promised, Ported, Room}
 use Rattle.vector.specs.declared.record.Kind.{Kind}
 use Rattle.vector.specs.declared.record.Kind.the-variants.{Header, Partition, Plan, Slot, Channel, Port, Ipvi, Line, Action}
@@ -21,15 +22,15 @@ use Rattle.vector.specs.declared.record.Scope.the-variants as scopes
 use Rattle.vector.specs.declared.sofar.Sofar.{Sofar}
 use Rattle.vector.specs.declared.tables.Channel as channels
 use Rattle.vector.proofs.Lists.{replaced}
-use Rattle.vector.proofs.Told.{Told, Within}
+use Rattle.vector.proofs.Told.{Told}
 use Rattle.vector.proofs.Joined.{after, Related}
 
 -- the header comes before anything is promised
-first-none : (l : Option Kind) → follows Header l ≡ true → isSome l ≡ false
+pub first-none : (l : Option Kind) → follows Header l ≡ true → isSome l ≡ false
 first-none None f = refl
 first-none (Some k) f = absurd (false≢true f)
 
-in-scope : (n : ℕ) (c : Scope) (e : ℕ) → n ≤ 8 → Within n c e → InScope c e
+in-scope : (n : ℕ) (c : Scope) (e : ℕ) → n ≤ 8 → EventIn n c e → InScope c e
 in-scope n (scopes.Partition p) e h w = (omega arith, omega arith)
 in-scope n scopes.System e h w = (w .0, omega arith)
 
@@ -41,7 +42,7 @@ module _ (s : Sofar) where
   ready-for k (header n m) f t x = tt
   ready-for k (partition c z n) f t x =
       let a : s .tables .partitions .count < s .partitions = ltb-true _ _ (in-turn k Partition (x .0) t .1) in
-      (omega arith, x .1)
+      (omega arith, x .1 .1 .1)
   ready-for k (plan g) f t x =
       let a : s .tables .plans .count < s .plans = ltb-true _ _ (and-parts _ _ (in-turn k Plan (x .0) t .1) .1) in
       omega arith
@@ -49,10 +50,10 @@ module _ (s : Sofar) where
       let a : 1 ≤ s .tables .plans .count = leb-true _ _ (in-turn k Slot (x .0) t .1) in
       (a, omega arith)
   ready-for k (channel c l d) f t x = tt
-  ready-for k (port p d n) f t x = (leb-true _ _ (in-turn k Port (x .0) t .1), f .2 .0, f .2 .1 (s .tables .channels .count - 1), x .2)
+  ready-for k (port p d n) f t x = (leb-true _ _ (in-turn k Port (x .0) t .1), f .2 .0, f .2 .1 (s .tables .channels .count - 1), x .1 .2 .1)
   ready-for k (ipvi n p m) f t x = (omega arith, omega arith)
   ready-for k (line l p) f t x = omega arith
-  ready-for k (action c e a l) f t x = in-scope (s .partitions) c e (f .0 .0 .0) (x .1)
+  ready-for k (action c e a l) f t x = in-scope (s .partitions) c e (f .0 .0 .0) (x .1 .0)
 
   -- a record that is not the header leaves what was promised
   still : (k : Kind) → Promised s → ((s .partitions ≤ 8) × (s .plans ≤ 4)) × (isSome (Some k) ≡ false → (s .partitions ≡ 0) × (s .plans ≡ 0))
@@ -60,7 +61,7 @@ module _ (s : Sofar) where
 
   -- no channel has more ports than there are, where one of them is changed
   ported-on : (i : ℕ) (c : channels.Channel) (n : ℕ) → Ported (s .tables) → s .tables .ports .count ≤ n → c .ports ≤ n → (j : ℕ) → getD (set (s .tables .channels .rows) i c) j channel0 .ports ≤ n
-  ported-on i c n f h new j = replaced (λ (c : channels.Channel). c .ports ≤ n) (s .tables .channels .rows) i j c channel0 new (let old = f .1 j in omega arith)
+  ported-on i c n f h new j = replaced (λ (c : channels.Channel). c .ports ≤ n) (s .tables .channels .rows) i j c channel0 (λ _. new) (let old = f .1 j in omega arith)
 
   pub room-after : (k : Kind) (x : Said) → Room s → inTurn k s ≡ true → Told k s x → Related s x → Room (after s x)
   room-after k (header n m) f i x r =

@@ -5,6 +5,7 @@ pub mod Out
 pub mod Frames
 pub mod Fields
 pub mod Bodies
+pub mod Ranges
 pub mod Rows
 pub mod Names
 pub mod Sofars
@@ -13,5 +14,7 @@ pub mod Joins
 pub mod Rooms
 pub mod Reading
 pub mod Points
+pub mod Encoding
+pub mod Laws
 pub mod Examples
 pub mod Fair

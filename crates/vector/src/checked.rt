@@ -5,6 +5,7 @@ ghost use mathlib.Core.Path.{_≡_};
 ghost use Rattle.vector.specs.Reading.{takes, tables};
 ghost use Rattle.vector.specs.Sound.{Sound};
 ghost use Rattle.vector.specs.Fair.{Fair};
+ghost use Rattle.vector.specs.Laws.{Lawful};
 use crate::scan::gather;
 use crate::tables::Tables;
 
@@ -26,6 +27,7 @@ impl<'a> Checked<'a> {
     pub fn tables(self) -> Tables
         ensures value { λ r. ⌜ r ≡ tables (now (self .entry .bytes)) ⌝ }
         ensures sound { λ r. ⌜ Sound r ⌝ }
+        ensures lawful { λ r. ⌜ Lawful r ⌝ }
         ensures fair { λ r. ⌜ Fair r ⌝ }
     {
         let Checked { bytes } = self;
