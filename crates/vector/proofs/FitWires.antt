@@ -1,15 +1,15 @@
 -- The channels and ports of the records so far: each channel has one source, first, and then destinations.
 use mathlib.Core.Path.{_≡_, refl, sym, ap, subst, _∙_}
-use mathlib.Core.Bool.{Bool, true, false, cond, _&&_, _||_}
+use mathlib.Core.Bool.{true, false, cond, _&&_, _||_}
 use mathlib.Core.List.{List, [], _∷_, _++_}
-use mathlib.Core.Logic.{_⊎_, inl, inr}
+use mathlib.Core.Logic.{inl, inr}
 use Prim.Native.Nat.{ℕ, zero, suc, _+_, _-_, _≤_, _<_}
 use native.Mathlib.Omega.{arith}
 use lib.Dec.{leb, eqb}
 use lib.ListN.{length, getD, set, take}
 use lib.Seq.{getD-set-same, getD-set-other}
 use Rattle.std.proofs.shelf.Lists.{length-set, take-more-set}
-use Rattle.std.proofs.shelf.Tests.{and-from, or-left, or-right, or-parts, and-cases, eq-eqb, ne-eqb, eqb-true, leb-true, leb-false, cond-true, cond-false, cases-eq, both-ways, cases-bool}
+use Rattle.std.proofs.shelf.Tests.{and-from, or-left, or-right, or-parts, and-cases, eq-eqb, ne-eqb, leb-false, cond-true, cond-false, cases-eq, both-ways}
 use Rattle.vector.specs.Blank.{channel0, port0}
 use Rattle.vector.specs.Sound.{SoundChannel}
 use Rattle.vector.specs.Bodies.{nextDirection}
@@ -19,7 +19,6 @@ use Rattle.vector.specs.Names.{sameName, clash, clashes}
 use Rattle.vector.specs.Rows.{openChannel, ported, addChannel, addPort}
 use Rattle.vector.specs.declared.tables.Channel.{Channel}
 use Rattle.vector.specs.declared.tables.Channels.{Channels}
-use Rattle.vector.specs.declared.tables.Direction.{Direction}
 use Rattle.vector.specs.declared.tables.Direction.the-variants.{Source, Destination}
 use Rattle.vector.specs.declared.tables.Port.{Port}
 use Rattle.vector.specs.declared.tables.Ports.{Ports}

@@ -1,7 +1,6 @@
 -- What the records so far have put into the tables is sound and lawful.
 use mathlib.Core.Path.{_≡_, refl, sym, subst}
-use mathlib.Core.Bool.{Bool, true, false, _&&_, _||_}
-use mathlib.Core.List.{List}
+use mathlib.Core.Bool.{true, false, _&&_}
 use mathlib.Core.Logic.{_⊎_, inl, inr}
 use Prim.Native.Nat.{ℕ, _+_, _-_, _≤_, _<_}
 use native.Mathlib.Omega.{arith}
@@ -15,13 +14,12 @@ use Rattle.std.proofs.shelf.Tests.{and-parts, or-parts, or-cases, leb-true, leb
 use Rattle.vector.specs.Blank.{plan0, row0}
 use Rattle.vector.specs.Fields.{deepest}
 use Rattle.vector.specs.Bodies.{Said, header, partition, plan, slot, channel, port, ipvi, line, action}
-use Rattle.vector.specs.Laws.{planAt}
 use Rattle.vector.specs.Names.{padded}
 use Rattle.vector.specs.Rows.{rowOf, noName, planWith, channelWith, openPlan, openChannel, placed}
 use Rattle.vector.specs.Ranges.{Mask}
 use Rattle.vector.specs.Rooms.{Room}
 use Rattle.vector.specs.Sofars.{nothing, withHeader}
-use Rattle.vector.specs.Turns.{leads, follows, hasPlans, hasPorts}
+use Rattle.vector.specs.Turns.{leads, follows, hasPlans, hasPorts, inTurn}
 use Rattle.vector.specs.Joins.{isFull, isQueuing}
 use Rattle.vector.specs.declared.record.Kind.{Kind}
 use Rattle.vector.specs.declared.record.Kind.the-variants.{Header, Partition, Plan, Slot, Channel, Port, Ipvi, Line, Action}
@@ -35,7 +33,8 @@ use Rattle.vector.specs.declared.tables.Plan as plans
 use Rattle.vector.specs.declared.tables.Plans.{Plans}
 use Rattle.vector.specs.declared.tables.Slot as slots
 use Rattle.vector.proofs.Lists.{replaced, all-alike}
-use Rattle.vector.proofs.Joined.{portIn}
+use Rattle.vector.proofs.Told.{Told}
+use Rattle.vector.proofs.Joined.{after, Related, portIn}
 use Rattle.vector.proofs.Rooms.{in-turn, first-none}
 use Rattle.vector.proofs.Keeps.{Kept}
 use Rattle.vector.proofs.FitPartitions.{FitPartitions, fit-partition, fit-link, fit-response}
@@ -98,7 +97,7 @@ module _ (s : Sofar) where
   still k j z t f e = f .some (later-some k (s .last) z t)
 
   -- there is room for one more port
-  not-full : isFull (s .tables) ≡ false → s .tables .ports .count < 32
+  pub not-full : isFull (s .tables) ≡ false → s .tables .ports .count < 32
   not-full e = leb-false 32 _ (or-parts (leb 32 (s .tables .ports .count)) (isQueuing (openChannel (s .tables) .kind) && leb 2 (openChannel (s .tables) .ports)) e .0)
 
   -- the last channel has its two ports
@@ -251,3 +250,8 @@ fit-nothing = record {
   where
     no-link : (p m : ℕ) → None ≡ Some m → (p < 0) × Mask 0 p m
     no-link p m e = absurd (let z : _≡_ {A = ℕ} 0 1 = cc in omega arith)
+
+-- the same, with what it takes written out
+pub fit-on : (s : Sofar) (k : Kind) (x : Said) → Room s → inTurn k s ≡ true → Told k s x → Related s x → Fit s → Fit (after s x)
+unfolding Kept
+fit-on = fit-kept

@@ -1,14 +1,14 @@
 -- What a record that joined those before it keeps, and what it makes of them.
-use mathlib.Core.Path.{_≡_}
+use mathlib.Core.Path.{_≡_, refl, ap, _∙_}
 use mathlib.Core.Bool.{Bool, false, cond, _&&_}
 use Prim.Native.Nat.{ℕ, _-_, _≤_, _<_}
 use lib.Dec.{leb}
 use lib.ListN.{getD, take}
 use Rattle.std.specs.Options.{isSome}
 use Rattle.std.specs.declared.option.Option.the-variants.{None}
-use Rattle.std.proofs.shelf.Tests.{and-parts, leb-true, leb-false}
+use Rattle.std.proofs.shelf.Tests.{and-parts, and-from, leb-true, leb-false, le-leb, lt-leb, cond-true, cond-false}
 use Rattle.vector.specs.Reasons.{Reason, tooMany, repeated, misplaced}
-use Rattle.vector.specs.Out.{fine, bad}
+use Rattle.vector.specs.Out.{Out, fine, bad, pass}
 use Rattle.vector.specs.Names.{padded, named, clashes}
 use Rattle.vector.specs.Bodies.{Said, NameAt, header, partition, plan, slot, channel, port, ipvi, line, action}
 use Rattle.vector.specs.Rows.{rowOf, channelWith, openPlan, endOf, slotEnd, partitionAt, addPartition, addPlan, addSlot, addChannel, addPort, addLink, addLine}
@@ -85,3 +85,22 @@ module _ (at : ℕ) (s t : Sofar) where
   joined-fine (ipvi n p m) e = missed _ (after s (ipvi n p m)) (repeated at) e
   joined-fine (line l p) e = missed _ (after s (line l p)) (repeated at) e
   joined-fine (action c v a l) e = missed _ (after s (action c v a l)) (repeated at) e
+
+fine-admitted : (at : ℕ) (p : plans.Plan) (x : slots.Slot) → Admitted p x → admitted at p x ≡ fine tt
+fine-admitted at p x h =
+    let fits = leb (endOf p) (x .start) && leb (slotEnd x) (p .frame) in
+    cond-false (leb 16 (p .count)) (bad (tooMany at)) (cond fits (fine tt) (bad (misplaced at))) (lt-leb 16 (p .count) (h .0))
+    ∙ cond-true fits (fine tt) (bad (misplaced at)) (and-from (leb (endOf p) (x .start)) (leb (slotEnd x) (p .frame)) (le-leb _ _ (h .1)) (le-leb _ _ (h .2)))
+
+module _ (at : ℕ) (s : Sofar) where
+  pub fine-joined : (x : Said) → Related s x → joined at s x ≡ fine (after s x)
+  fine-joined (header n m) r = refl
+  fine-joined (partition c z n) r = cond-false _ _ _ r
+  fine-joined (plan f) r = refl
+  fine-joined (slot p b d) r =
+      ap (λ (o : Out (Unit {0})). pass o (fine (after s (slot p b d)))) (fine-admitted at (openPlan (s .tables)) (record { partition = p; start = b; duration = d }) r)
+  fine-joined (channel k l d) r = cond-false (leb 8 (s .tables .channels .count)) _ _ (lt-leb 8 _ r)
+  fine-joined (port p d n) r = cond-false (isFull (s .tables)) _ _ (r .0) ∙ cond-false _ _ _ (r .1)
+  fine-joined (ipvi n p m) r = cond-false _ _ _ r
+  fine-joined (line l p) r = cond-false _ _ _ r
+  fine-joined (action c e a l) r = cond-false _ _ _ r

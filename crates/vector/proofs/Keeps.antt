@@ -32,7 +32,7 @@ use Rattle.vector.proofs.Heard.{was-told}
 unfoldable pub Kept : (Sofar → Type 0) → Type 0
 Kept P = (s : Sofar) (k : Kind) (x : Said) → Room s → inTurn k s ≡ true → Told k s x → Related s x → P s → P (after s x)
 
-room-nothing : Room nothing
+pub room-nothing : Room nothing
 room-nothing = (((omega arith, omega arith), λ e. (refl, refl)), (omega arith, omega arith), (omega arith, λ i. all-alike (λ (c : Channel). c .ports ≤ 0) 8 i (channelWith Sampling 0 0) channel0 (omega arith) (omega arith)))
 
 module _ (P : Sofar → Type 0) (each : Kept P) where

@@ -49,16 +49,16 @@ mask-others n p m q h b = (
 
 -- what is known where nothing is owed
 module _ (s : Sofar) (r : Room s) (f : Fit s) (e : settled s ≡ true) where
-  ended : (ends (s .last) ≡ true) × ((hasPartitions s ≡ true) × ((hasPlans s ≡ true) × (hasPorts s ≡ true)))
+  pub ended : (ends (s .last) ≡ true) × ((hasPartitions s ≡ true) × ((hasPlans s ≡ true) × (hasPorts s ≡ true)))
   ended =
       let w = and-parts (ends (s .last)) (hasPartitions s && (hasPlans s && hasPorts s)) e in
       let v = and-parts (hasPartitions s) (hasPlans s && hasPorts s) (w .1) in
       (w .0, (v .0, and-parts (hasPlans s) (hasPorts s) (v .1)))
 
-  all-partitions : s .partitions ≡ s .tables .partitions .count
+  pub all-partitions : s .partitions ≡ s .tables .partitions .count
   all-partitions = sym (eqb-true _ _ (ended .1 .0))
 
-  all-plans : s .plans ≡ s .tables .plans .count
+  pub all-plans : s .plans ≡ s .tables .plans .count
   all-plans = sym (eqb-true _ _ (ended .1 .1 .0))
 
   sound-plan : (p : plans.Plan) → FitPlan (s .partitions) p → SoundPlan p
@@ -78,7 +78,7 @@ module _ (s : Sofar) (r : Room s) (f : Fit s) (e : settled s ≡ true) where
         λ i p q. let o = f .lines i p q in omega (arith, r .0 .0 .0),
       )
 
-  has-slot : (i : ℕ) → i < s .tables .plans .count → 1 ≤ planAt i (s .tables) .count
+  pub has-slot : (i : ℕ) → i < s .tables .plans .count → 1 ≤ planAt i (s .tables) .count
   has-slot i h = elim (f .begun i h) [ inl o ↦ o | inr z ↦ absurd (false≢true (subst (λ (l : Option Kind). ends l ≡ true) (z .1) (ended .0))) ]
 
   has-two : (c : ℕ) → c < s .tables .channels .count → 2 ≤ channelAt c (s .tables) .ports

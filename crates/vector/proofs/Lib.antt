@@ -16,3 +16,11 @@ pub mod FitWires
 pub mod Fits
 pub mod Laws
 pub mod Fairness
+pub mod Says
+pub mod Anys
+pub mod Seen
+pub mod Stages
+pub mod Sections
+pub mod Grown
+pub mod Taken
+pub mod Reached

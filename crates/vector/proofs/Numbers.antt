@@ -1,5 +1,5 @@
 -- Numbers as they stand in bytes, read and written.
-use mathlib.Core.Path.{_≡_, refl, sym, ap, ap₂, _∙_}
+use mathlib.Core.Path.{_≡_, refl, ap, ap₂, _∙_}
 use mathlib.Core.Bool.{Bool, true, false, cond}
 use mathlib.Core.List.{List, [], _∷_, _++_}
 use Prim.Native.Nat.{ℕ, _+_, _*_, _/_, _%_, _<_, _≤_}
@@ -7,13 +7,13 @@ use native.Mathlib.Omega.{arith}
 use lib.Dec.{ltb, eqb}
 use lib.ListN.{length, getD, drop}
 use lib.Seq.{drop-cons}
-use Rattle.std.proofs.shelf.Tests.{eqb-true, ltb-true}
+use Rattle.std.proofs.shelf.Tests.{eqb-true}
 use Rattle.vector.specs.Reasons.{Reason, unknownKind, outOfRange}
 use Rattle.vector.specs.Out.{Out, fine, bad}
 use Rattle.vector.specs.Frames.{kindOf}
 use Rattle.vector.specs.Turns.{kindNumber}
 use Rattle.vector.specs.Fields.{classOf, channelKindOf, scopeOf, actionOf, laterAction, flagOf, directionNumber, directed}
-use Rattle.vector.specs.Encoding.{Bytes, two, four, classNumber, channelNumber, scopeNumber, actionNumber, flagNumber}
+use Rattle.vector.specs.Encoding.{two, four, classNumber, channelNumber, scopeNumber, actionNumber, flagNumber}
 use Rattle.vector.specs.declared.record.Kind.{Kind}
 use Rattle.vector.specs.declared.record.Kind.the-variants as kinds
 use Rattle.vector.specs.declared.record.Scope.{Scope}

@@ -30,7 +30,7 @@ pub first-none : (l : Option Kind) → follows Header l ≡ true → isSome l �
 first-none None f = refl
 first-none (Some k) f = absurd (false≢true f)
 
-in-scope : (n : ℕ) (c : Scope) (e : ℕ) → n ≤ 8 → EventIn n c e → InScope c e
+pub in-scope : (n : ℕ) (c : Scope) (e : ℕ) → n ≤ 8 → EventIn n c e → InScope c e
 in-scope n (scopes.Partition p) e h w = (omega arith, omega arith)
 in-scope n scopes.System e h w = (w .0, omega arith)
 

@@ -26,7 +26,7 @@ skipped zero at s bs = refl
 skipped (suc k) at s [] = refl
 skipped (suc k) at s (b ∷ bs) = skipped k at s bs
 
-drop-more : (n b : ℕ) (bs : List ℕ) → drop (4 + n) (b ∷ bs) ≡ drop (3 + n) bs
+pub drop-more : (n b : ℕ) (bs : List ℕ) → drop (4 + n) (b ∷ bs) ≡ drop (3 + n) bs
 drop-more n b bs = let e : 4 + n ≡ suc (3 + n) = omega arith in ap (λ k. drop k (b ∷ bs)) e
 
 -- a step that was taken: the record was cut off, heard and joined
@@ -52,7 +52,7 @@ abbrev pub scanFrom : Point → Out Sofar
 scanFrom p = scan 0 (p .at) (p .sofar) (p .rest)
 
 -- the scan goes on from where a step leads
-scan-step : (p : Point) (x : Step) → 0 < length (p .rest) → Stepped p x → scanFrom (x .point) ≡ scanFrom p
+pub scan-step : (p : Point) (x : Step) → 0 < length (p .rest) → Stepped p x → scanFrom (x .point) ≡ scanFrom p
 scan-step p x h w = subst (λ (y : Step). scanFrom (y .point) ≡ scanFrom p) (w .is) (over (p .rest) h (w .cut))
   where
     over : (bs : List ℕ) → 0 < length bs → framed (p .at) bs ≡ fine (w .front) → scan 0 (p .at + (4 + length (w .front .body))) (w .sofar) (w .front .rest) ≡ scan 0 (p .at) (p .sofar) bs

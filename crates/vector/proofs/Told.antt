@@ -10,19 +10,19 @@ use Rattle.std.proofs.shelf.Bits.{pow-pos, div-add-mod', mod-below}
 use Rattle.std.proofs.shelf.Lists.{drop-all}
 use Rattle.std.proofs.shelf.Tests.{and-parts, leb-true, ltb-true, eqb-true, not-true}
 use Rattle.vector.specs.Reasons.{Reason, outOfRange}
-use Rattle.vector.specs.Out.{Out, fine, bad, then, pass}
+use Rattle.vector.specs.Out.{fine, bad, then, pass}
 use Rattle.vector.specs.Frames.{word16, suits}
-use Rattle.vector.specs.Fields.{within, existing, classOf, channelKindOf, deepest, directed, hasBit, masked, scopeOf, eventOf, laterAction, actionOf, flagOf}
+use Rattle.vector.specs.Fields.{within, existing, classOf, channelKindOf, deepest, directed, hasBit, masked, scopeOf, eventOf, actionOf, flagOf}
 use Rattle.vector.specs.Bodies.{Said, header, partition, plan, slot, channel, port, ipvi, line, action, word32, nextDirection, saidBy}
 use Rattle.vector.specs.Encoding.{Bytes, bodyOf}
-use Rattle.vector.specs.Ranges.{kindSaid, In, Mask, EventIn, Allows, Ranged}
+use Rattle.vector.specs.Ranges.{kindSaid, Mask, EventIn, Allows, Ranged}
 use Rattle.vector.specs.declared.record.Kind.{Kind}
 use Rattle.vector.specs.declared.record.Kind.the-variants.{Header, Partition, Plan, Slot, Channel, Port, Ipvi, Line, Action}
 use Rattle.vector.specs.declared.record.Scope.{Scope}
 use Rattle.vector.specs.declared.record.Scope.the-variants as scopes
 use Rattle.vector.specs.declared.sofar.Sofar.{Sofar}
 use Rattle.vector.specs.declared.tables.Action as actions
-use Rattle.vector.specs.declared.tables.Action.the-variants.{Ignore, Signal, Suspend, Halt, WarmReset, ColdReset}
+use Rattle.vector.specs.declared.tables.Action.the-variants.{Ignore, Halt, WarmReset, ColdReset}
 use Rattle.vector.proofs.Numbers.{class-number, channel-number, scope-number, action-number, flag-number, direction-number, two-of, four-of, open-2, open-3, open-4, open-9}
 use Rattle.vector.proofs.Outs.{then-fine, pass-fine, cond-fine, same-fine, within-fine, existing-fine}
 

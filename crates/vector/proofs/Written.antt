@@ -1,6 +1,5 @@
 -- What the reader shows of a record gives back its bytes.
 use mathlib.Core.Path.{_≡_, ap₂, subst, _∙_}
-use mathlib.Core.Bool.{true}
 use mathlib.Core.List.{List, [], _∷_, _++_}
 use Prim.Native.Nat.{ℕ, zero, suc}
 use native.Mathlib.Omega.{arith}

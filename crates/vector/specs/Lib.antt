@@ -18,3 +18,4 @@ pub mod Encoding
 pub mod Laws
 pub mod Examples
 pub mod Fair
+pub mod Config

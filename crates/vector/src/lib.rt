@@ -1,5 +1,6 @@
 //! The reader of configuration vectors.
 ghost use mathlib.Core.Path.{_≡_};
+ghost use Rattle.vector.specs.Config.{TakenIsValid};
 ghost use Rattle.vector.specs.Out.{out};
 ghost use Rattle.vector.specs.Reasons.{reason};
 ghost use Rattle.vector.specs.Reading.{verdict, verdictOf, gathered};
@@ -26,9 +27,10 @@ pub(crate) mod sofar;
 pub mod tables;
 pub(crate) mod turn;
 
-/// Whether the bytes are a vector that is taken.
+/// Whether the bytes are a vector that is taken: it is if and only if it is the vector of a valid configuration.
 pub fn check(bytes: &[u8]) -> Result<(), Refusal>
-    ensures { λ r. ⌜ verdictOf (out reason (λ u. u) r) ≡ verdict (now (bytes .entry)) ⌝ }
+    ensures answer { λ r. ⌜ verdictOf (out reason (λ u. u) r) ≡ verdict (now (bytes .entry)) ⌝ }
+    ensures exact { λ r. ⌜ TakenIsValid ⌝ }
 {
     let _ = gather(bytes)?;
     Ok(())
