@@ -1,17 +1,16 @@
 -- Sound fences lay the areas apart in the memory.
-use Rattle.std.proofs.Common.{◌≡◌, ℕ, ◌+◌, ◌-◌, ◌<◌, ◌≤◌, min, true, ◌⊎◌, List, length, get_or, drop, replicate, sym, refl, ap, ◌∙◌, ⊎_elim, arith, length-drop, length-take}
+use Rattle.std.proofs.Common.{◌≡◌, ℕ, ◌+◌, ◌-◌, ◌<◌, ◌≤◌, min, true, ◌⊎◌, List, length, get_or, drop, replicate, Some, None, sym, refl, ap, ◌∙◌, ⊎_elim, arith, length-drop, length-take}
 use lib.ListN.{length-map, get_or-map}
 use Rattle.std.proofs.lemmas.List.{get_or-take, get_or-drop, get_or_past}
-use Rattle.std.proofs.lemmas.Bool.{cases_lt, and_parts}
+use Rattle.std.proofs.lemmas.Bool.{cases_lt, and_parts, cond_below}
 use Rattle.std.proofs.lemmas.Bool.Decides.{nat_tests}
 use Rattle.board.specs.Areas.{area}
 use Rattle.boards.specs.declared.fence.Fence.{Fence}
-use Rattle.boards.specs.declared.fenced.Fenced.{Fenced}
 use Rattle.boards.specs.Below.{all_below}
-use Rattle.boards.specs.Places.{LiesAt}
-use Rattle.boards.specs.Fences.{nowhere, fence_of, part, parts, within, apart, apart_at, good_fence, sound_fences}
+use Rattle.boards.specs.Places.{found}
+use Rattle.boards.specs.Fences.{nowhere, fence_of, part, parts, within, apart, apart_at, good_fence, sound_fences, fence_place, fence_size}
 use Rattle.boards.proofs.Below.{below_at, neither_before}
-use Rattle.boards.proofs.Laid.{Laid, lies_at}
+use Rattle.boards.proofs.Laid.{Laid}
 
 -- eight empty fences are sound in any memory
 pub empty-sound : (n : ℕ) → sound_fences (replicate 8 nowhere) n ≡ true
@@ -27,19 +26,9 @@ no_byte_shared f g a c e l k p = grind (arith, nat_tests)
 area-part : (memory : List ℕ) (fences : List Fence) (i : ℕ) → area (parts memory fences) i ≡ part memory (fence_of fences i)
 area-part memory fences i = get_or-map (part memory) fences i nowhere
 
-module _ {n : ℕ} (b : Fenced n) where
-  abbrev fences : List Fence
-  fences = b.fences
-
-  -- where byte a of area i lies
-  abbrev place_of : ℕ → ℕ → ℕ
-  place_of i a = (fence_of fences i).base + a
-
-  abbrev size_of : ℕ → ℕ
-  size_of i = (fence_of fences i).size
-
+module _ (fences : List Fence) (n : ℕ) (e : length fences ≡ 8) (s : sound_fences fences n ≡ true) where
   -- an area with a byte is one of the eight
-  below : (i a : ℕ) → a < size_of i → i < 8
+  below : (i a : ℕ) → a < fence_size fences i → i < 8
   below i a l =
       ⊎_elim
       (λ (h : i < 8). h)
@@ -47,50 +36,51 @@ module _ {n : ℕ} (b : Fenced n) where
       (cases_lt i 8)
 
   good : (i : ℕ) → i < 8 → (within n (fence_of fences i) ≡ true) × (all_below (apart_at fences i) i ≡ true)
-  good i h = and_parts (within n (fence_of fences i)) (all_below (apart_at fences i) i) (below_at (good_fence fences n) 8 i b.sound h)
+  good i h = and_parts (within n (fence_of fences i)) (all_below (apart_at fences i) i) (below_at (good_fence fences n) 8 i s h)
 
-  fence_end : (i a : ℕ) → a < size_of i → (fence_of fences i).base + size_of i ≤ n
+  fence_end : (i a : ℕ) → a < fence_size fences i → (fence_of fences i).base + fence_size fences i ≤ n
   fence_end i a l = ends-within n (fence_of fences i) a (good i (below i a l)).0 l
 
-  earlier : (i j a c : ℕ) → j < i → a < size_of i → c < size_of j → place_of i a ≡ place_of j c → ⊥
+  -- a byte of the fence of an area has its place there
+  pub place_found : (i a : ℕ) (f : Fence) → f ≡ fence_of fences i → a < f.size →
+      (Some (f.base + a) ≡ found (fence_place fences) (fence_size fences) i a) × (f.base + a < n)
+  place_found i a f q l =
+      let b = ap (λ (x : Fence). x.base) q in
+      let z = ap (λ (x : Fence). x.size) q in
+      let h : a < fence_size fences i = omega arith in
+      let w = fence_end i a h in
+      (ap (λ (x : Fence). Some (x.base + a)) q ∙ cond_below a (fence_size fences i) (Some (fence_place fences i a)) None h, omega arith)
+
+  earlier : (i j a c : ℕ) → j < i → a < fence_size fences i → c < fence_size fences j → fence_place fences i a ≡ fence_place fences j c → ⊥
   earlier i j a c h l k =
       no_byte_shared (fence_of fences i) (fence_of fences j) a c (below_at (apart_at fences i) i j (good i (below i a l)).1 h) l k
 
-  bytes_apart : (i j a c : ℕ) → a < size_of i → c < size_of j → place_of i a ≡ place_of j c → (i ≡ j) × (a ≡ c)
+  bytes_apart : (i j a c : ℕ) → a < fence_size fences i → c < fence_size fences j → fence_place fences i a ≡ fence_place fences j c → (i ≡ j) × (a ≡ c)
   bytes_apart i j a c l k p =
       let z = neither_before i j (λ h. earlier i j a c h l k p) (λ h. earlier j i c a h k l (sym p)) in
-      let y = ap (λ (x : ℕ). (fence_of fences x).base) z in
+      let b = ap (λ (x : ℕ). (fence_of fences x).base) z in
       (z, omega arith)
 
-  part-size : (memory : List ℕ) → length memory ≡ n → (i : ℕ) → length (area (parts memory fences) i) ≡ size_of i
+  part-size : (memory : List ℕ) → length memory ≡ n → (i : ℕ) → length (area (parts memory fences) i) ≡ fence_size fences i
   part-size memory m i =
-      let q : length (part memory (fence_of fences i)) ≡ min (size_of i) (length memory - (fence_of fences i).base) = simp (length-take, length-drop) in
+      let q : length (part memory (fence_of fences i)) ≡ min (fence_size fences i) (length memory - (fence_of fences i).base) = simp (length-take, length-drop) in
       ap length (area-part memory fences i)
       ∙ q
       ∙ ⊎_elim
-      (λ (h : 0 < size_of i). let w = fence_end i 0 h in omega arith)
-      (λ (h : size_of i ≤ 0). omega arith)
-      (cases_lt 0 (size_of i))
+      (λ (h : 0 < fence_size fences i). let w = fence_end i 0 h in omega arith)
+      (λ (h : fence_size fences i ≤ 0). omega arith)
+      (cases_lt 0 (fence_size fences i))
 
-  fences-laid : Laid n place_of size_of (λ memory. parts memory fences)
-  fences-laid =
+  pub fences_laid : Laid n (fence_place fences) (fence_size fences) (λ memory. parts memory fences)
+  fences_laid =
       record {
-        eight = λ memory. length-map fences (part memory) ∙ b.eight;
+        eight = λ memory. length-map fences (part memory) ∙ e;
         long = part-size;
         byte =
             λ memory i a l.
             ap (λ (bytes : List ℕ). get_or bytes a 0) (area-part memory fences i)
-            ∙ get_or-take (size_of i) (drop (fence_of fences i).base memory) a 0 l
+            ∙ get_or-take (fence_size fences i) (drop (fence_of fences i).base memory) a 0 l
             ∙ get_or-drop (fence_of fences i).base memory a 0;
         within = λ i a l. let w = fence_end i a l in omega arith;
         apart = bytes_apart;
       }
-
-  -- a fence is as long as its area, and its bytes are that area's
-  pub as_long : (i : ℕ) (f : Fence) → f ≡ fence_of fences i → f.size ≡ length (area (parts b.memory fences) i)
-  as_long i f q = ap (λ (x : Fence). x.size) q ∙ sym (part-size b.memory b.whole i)
-
-  pub byte_at : (i a : ℕ) (f : Fence) → f ≡ fence_of fences i → a < f.size → LiesAt (λ m. parts m fences) b.memory i a (f.base + a)
-  byte_at i a f q l =
-      let s = as_long i f q in
-      rw q (lies_at fences-laid b.memory b.whole i a (omega arith))

@@ -1,15 +1,14 @@
 -- A sound page table lays the areas apart in the memory.
-use Rattle.std.proofs.Common.{◌≡◌, ℕ, ◌+◌, ◌*◌, ◌/◌, ◌%◌, ◌<◌, ◌≤◌, Bool, true, not, ◌&&◌, ◌||◌, eqb, leb, ◌⊎◌, List, [], length, get_or, replicate, sym, refl, ap, ◌∙◌, ⊎_elim, arith}
+use Rattle.std.proofs.Common.{◌≡◌, ℕ, ◌+◌, ◌*◌, ◌/◌, ◌%◌, ◌<◌, ◌≤◌, Bool, true, not, ◌&&◌, ◌||◌, eqb, ltb, leb, ◌⊎◌, List, [], length, get_or, replicate, Some, None, sym, refl, ap, ◌∙◌, ⊎_elim, arith}
 use Rattle.std.proofs.lemmas.List.FromFn.{length-map-range_with_len, get_or-map-range_with_len}
 use Rattle.std.proofs.lemmas.List.{get_or_past}
-use Rattle.std.proofs.lemmas.Bool.{cases_lt, and_parts, leb-true, lt-ltb, not-true, eqb-false}
+use Rattle.std.proofs.lemmas.Bool.{cases_lt, and_parts, cond_below, leb-true, lt-ltb, not-true, eqb-false}
 use Rattle.board.specs.Areas.{area}
-use Rattle.boards.specs.declared.paged.Paged.{Paged}
 use Rattle.boards.specs.Below.{all_below}
-use Rattle.boards.specs.Places.{LiesAt}
+use Rattle.boards.specs.Places.{found}
 use Rattle.boards.specs.Pages.{page, paged_size, paged_place, paged_byte, paged_area, paged, eight-paged, entry, used, differs, good_entry, fits, sound_pages}
 use Rattle.boards.proofs.Below.{below_at, neither_before}
-use Rattle.boards.proofs.Laid.{Laid, lies_at}
+use Rattle.boards.proofs.Laid.{Laid}
 
 -- eight empty areas are sound in any memory, with any table
 pub empty-sound : (table : List (List ℕ)) (n : ℕ) → sound_pages table (replicate 8 0) n ≡ true
@@ -19,24 +18,15 @@ empty-sound table n = refl
 implied : (u t : Bool) → (not u || t) ≡ true → u ≡ true → t ≡ true
 implied u t h k = grind arith
 
-module _ {n : ℕ} (b : Paged n) where
-  abbrev table : List (List ℕ)
-  table = b.table
-
-  abbrev sizes : List ℕ
-  sizes = b.sizes
-
+module _ (table : List (List ℕ)) (sizes : List ℕ) (n : ℕ) (e : length sizes ≡ 8) (s : sound_pages table sizes n ≡ true) where
   sound : (all_below (good_entry table sizes n) 128 ≡ true) × (all_below (fits sizes) 8 ≡ true)
-  sound = and_parts (all_below (good_entry table sizes n) 128) (all_below (fits sizes) 8) b.sound
-
-  pub most : (i : ℕ) → i < 8 → paged_size sizes i ≤ 1024
-  most i h = leb-true (paged_size sizes i) 1024 (below_at (fits sizes) 8 i sound.1 h)
+  sound = and_parts (all_below (good_entry table sizes n) 128) (all_below (fits sizes) 8) s
 
   -- an area with a byte is one of the eight, and not too large
-  fitting : (i a : ℕ) → a < paged_size sizes i → (i < 8) × (paged_size sizes i ≤ 1024)
+  pub fitting : (i a : ℕ) → a < paged_size sizes i → (i < 8) × (paged_size sizes i ≤ 1024)
   fitting i a l =
       ⊎_elim
-      (λ (h : i < 8). (h, most i h))
+      (λ (h : i < 8). (h, leb-true (paged_size sizes i) 1024 (below_at (fits sizes) 8 i sound.1 h)))
       (λ (h : 8 ≤ i). let z = get_or_past sizes i 0 (omega arith) in absurd (omega arith))
       (cases_lt i 8)
 
@@ -72,9 +62,13 @@ module _ {n : ℕ} (b : Paged n) where
   place-within : (i a : ℕ) → a < paged_size sizes i → paged_place table i a < n
   place-within i a l =
       let w = entry_of i a l in
-      let m = leb-true (64 * entry table (16 * i + a / 64) + 64) n (held (16 * i + a / 64) w.0 w.1).0 in
+      let b = leb-true (64 * entry table (16 * i + a / 64) + 64) n (held (16 * i + a / 64) w.0 w.1).0 in
       let p = w.2 in
       omega arith
+
+  pub place_found : (i a : ℕ) → a < paged_size sizes i →
+      (Some (paged_place table i a) ≡ found (paged_place table) (paged_size sizes) i a) × (paged_place table i a < n)
+  place_found i a l = (cond_below a (paged_size sizes i) (Some (paged_place table i a)) None l, place-within i a l)
 
   bytes_apart : (i j a c : ℕ) → a < paged_size sizes i → c < paged_size sizes j → paged_place table i a ≡ paged_place table j c → (i ≡ j) × (a ≡ c)
   bytes_apart i j a c l k p =
@@ -99,7 +93,7 @@ module _ {n : ℕ} (b : Paged n) where
       ap length (get_or_past (paged memory table sizes) i [] (omega arith)) ∙ sym (get_or_past sizes i 0 (omega arith)))
       (cases_lt i 8)
 
-  pages_laid : Laid n (paged_place table) (paged_size sizes) (λ memory. paged memory table sizes)
+  pub pages_laid : Laid n (paged_place table) (paged_size sizes) (λ memory. paged memory table sizes)
   pages_laid =
       record {
         eight = λ memory. eight-paged memory table sizes;
@@ -111,9 +105,3 @@ module _ {n : ℕ} (b : Paged n) where
         within = place-within;
         apart = bytes_apart;
       }
-
-  pub as_long : (i : ℕ) → paged_size sizes i ≡ length (area (paged b.memory table sizes) i)
-  as_long i = sym (area-size b.memory i)
-
-  pub byte_at : (i a : ℕ) → a < length (area (paged b.memory table sizes) i) → LiesAt (λ m. paged m table sizes) b.memory i a (paged_place table i a)
-  byte_at = lies_at pages_laid b.memory b.whole

@@ -38,3 +38,11 @@ good_fence fences n i = within n (fence_of fences i) && all_below (apart_at fenc
 -- all eight fences are good in a memory of n bytes
 abbrev pub sound_fences : List Fence → ℕ → Bool
 sound_fences fences n = all_below (good_fence fences n) 8
+
+-- where byte `at` of area i lies
+abbrev pub fence_place : List Fence → ℕ → ℕ → ℕ
+fence_place fences i at = (fence_of fences i).base + at
+
+-- the size of area i
+abbrev pub fence_size : List Fence → ℕ → ℕ
+fence_size fences i = (fence_of fences i).size

@@ -1,10 +1,9 @@
 //! A board whose areas are fenced parts of a memory of its own.
-ghost use Rattle.std.specs.Prelude.{◌≡◌, true, [], length, replicate, if◌then◌else◌};
+ghost use Rattle.std.specs.Prelude.{◌≡◌, ◌<◌, true, [], length, replicate, IfSome, if◌then◌else◌};
 ghost use Rattle.std.proofs.Common.{◌∙◌};
 ghost use Rattle.std.proofs.lemmas.List.{length-map};
-ghost use Rattle.board.specs.Areas.{area};
-ghost use Rattle.boards.specs.Places.{Places};
-ghost use Rattle.boards.specs.Fences.{fence_of, part, parts, sound_fences};
+ghost use Rattle.boards.specs.Places.{found};
+ghost use Rattle.boards.specs.Fences.{fence_of, part, parts, sound_fences, fence_place, fence_size};
 
 use crate::fence::Fence;
 use crate::fences::are_sound;
@@ -37,8 +36,7 @@ impl<const N: usize> Fenced<N> {
 
     // The fence of an area; one that is not there is empty.
     fn fence(&self, i: usize) -> Fence
-        ensures is { result ≡ fence_of self.now.fences i }
-        ensures long { result.size ≡ length (area (parts self.now.memory self.now.fences) i) }
+        ensures { result ≡ fence_of self.now.fences i }
     {
         if i < 8 {
             self.fences[i]
@@ -49,7 +47,8 @@ impl<const N: usize> Fenced<N> {
 
     // Where a byte of an area lies in the memory, or none outside the area.
     fn place(&self, i: usize, at: usize) -> Option<usize>
-        ensures { Places (λ m. parts m self.now.fences) self.now.memory i at result }
+        ensures is { result ≡ found (fence_place self.now.fences) (fence_size self.now.fences) i at }
+        ensures inside { IfSome result (λ p. p < N) }
     {
         let fence = self.fence(i);
         if at < fence.size {

@@ -1,9 +1,9 @@
 -- The array of rings, where one is changed.
-use Rattle.std.proofs.Common.{◌≡◌, ℕ, zero, suc, ◌-◌, ◌<◌, List, [], ◌∷◌, ◌++◌, map, length, get_or, set, replicate, sym, refl, ap, ◌∙◌, subst, ⊎_elim, arith}
-use Rattle.std.proofs.lemmas.List.{get_or-replicate, get_or-set_same, get_or-set_other, set-set}
+use Rattle.std.proofs.Common.{◌≡◌, ℕ, zero, suc, ◌-◌, ◌<◌, List, [], ◌∷◌, ◌++◌, map, length, get_or, set, replicate, Some, None, Option, sym, refl, ap, ◌∙◌, subst, ⊎_elim, arith}
+use Rattle.std.proofs.lemmas.List.{get_or-replicate, get_or-set_same, get_or-set_other, set-set, length-map, map_push}
 use Rattle.std.proofs.lemmas.Bool.{cases_eq}
 use Rattle.std.specs.Option.{option_map}
-use Rattle.queue.specs.Ring.{items, entries, empty, first, rest}
+use Rattle.queue.specs.Ring.{items, entries, empty, first, rest, Sound}
 use Rattle.queue.specs.declared.Queue.{Queue}
 use Rattle.machine.specs.declared.message.Message.{Message}
 use Rattle.machine.specs.Letters.{Letter, letter_of}
@@ -11,7 +11,7 @@ use Rattle.kernel.specs.declared.channels.Channels.{Channels}
 use Rattle.kernel.specs.Rings.{letters_of, views, chans_of, Ring, Rings}
 
 -- one ring changed is one list changed
-views-set : (qs : List Queue) (cs : List (List Message)) (i : ℕ) (q : Queue) (c : List Message) →
+pub views-set : (qs : List Queue) (cs : List (List Message)) (i : ℕ) (q : Queue) (c : List Message) →
     views (set qs i q) (set cs i c) ≡ set (views qs cs) i (letters_of q c)
 unfolding views
 views-set [] cs i q c = refl
@@ -39,7 +39,7 @@ views-at (q ∷ qs) (c ∷ cs) zero = refl
 views-at (q ∷ qs) (c ∷ cs) (suc i) = views-at qs cs i
 
 -- the rings stay sound where a sound one takes a place
-rings_set : (h : Channels) (i : ℕ) (q : Queue) (c : List Message) → i < length h.queues → i < length h.cells →
+pub rings_set : (h : Channels) (i : ℕ) (q : Queue) (c : List Message) → i < length h.queues → i < length h.cells →
     Rings h → Ring q c → Rings (record { cells = set h.cells i c; queues = set h.queues i q })
 rings_set h i q c l m all one =
     λ j b. (⊎_elim
@@ -47,15 +47,6 @@ rings_set h i q c l m all one =
     (rw (get_or-set_same h.queues i q empty l, get_or-set_same h.cells i c [] m) one))
     (λ z. rw (get_or-set_other h.queues i j q empty z, get_or-set_other h.cells i j c [] z) (all j b))
     (cases_eq j i))
-
--- one ring changed: the rings stay sound, and one channel has other messages
-pub ring_changed : (h : Channels) (i : ℕ) (q : Queue) (c xs : List Message) (ms : List Letter) →
-    i < length h.queues → i < length h.cells → Rings h → Ring q c → entries q c ≡ xs → map letter_of xs ≡ ms →
-    (Rings (record { cells = set h.cells i c; queues = set h.queues i q })) × (views (set h.queues i q) (set h.cells i c) ≡ set (chans_of h) i ms)
-ring_changed h i q c xs ms l m all one e f = (
-  rings_set h i q c l m all one,
-  views-set h.queues h.cells i q c ∙ ap (set (chans_of h) i) (ap (map letter_of) e ∙ f),
-)
 
 pub fresh_rings : (q : Queue) (c : List Message) → q ≡ empty → length c ≡ 8 → Rings (record { cells = replicate 8 c; queues = replicate 8 q })
 fresh_rings q c e l i b =

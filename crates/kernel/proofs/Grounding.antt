@@ -1,6 +1,5 @@
 -- What a checked vector says of its tables, in the parts that a system keeps.
-use Rattle.std.proofs.Common.{◌≡◌, ℕ, ◌<◌, get_or, Some, None, Option, unwrap_or, refl, arith}
-use Rattle.lookup.specs.Bounds.{Lined}
+use Rattle.std.proofs.Common.{ℕ, ◌<◌, arith}
 use Rattle.vector.specs.declared.tables.Tables.{Tables}
 use Rattle.vector.specs.Sound.{Sound}
 use Rattle.vector.specs.Fair.{Fair}
@@ -27,10 +26,3 @@ module _ (t : Tables) (s : Sound t) where
   -- the clock starts within the first plan's frame
   pub started : Timely t.plans (clock_of 0 0 0 0)
   started = let f = (s.2.2 0 (omega (arith, s.2.0))).0 in (omega (arith, s.2.0), omega (arith, s.2.0), omega arith, omega (arith, f))
-
-  pub lined : Lined t.lines
-  lined i = below (get_or t.lines i None) refl
-    where
-      below : (o : Option ℕ) → get_or t.lines i None ≡ o → unwrap_or o 0 < 8
-      below None e = omega arith
-      below (Some q) e = s.5 i q e

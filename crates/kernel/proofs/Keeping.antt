@@ -1,22 +1,49 @@
 -- What the machine keeps, the run keeps.
-use Rattle.std.proofs.Common.{◌≡◌, ℕ, Bool, true, false, cond, List, [], ◌∷◌, sym, refl, ap, ◌∙◌, subst}
+use Rattle.std.proofs.Common.{◌≡◌, ℕ, ◌<◌, Bool, true, false, cond, List, [], ◌∷◌, IfSome, Some, None, Option, sym, refl, ap, ◌∙◌, subst, ap₂, arith}
 use Rattle.vector.specs.declared.tables.Tables.{Tables}
+use Rattle.vector.specs.declared.tables.ChannelKind.{ChannelKind}
+use Rattle.vector.specs.declared.tables.ChannelKind.TheVariants.{Sampling, Queuing}
+use Rattle.vector.specs.declared.tables.Direction.{Direction}
+use Rattle.vector.specs.declared.tables.Direction.TheVariants.{Source, Destination}
 use Rattle.vector.specs.Fair.{Fair}
 use Rattle.machine.specs.declared.event.Event.{Event}
 use Rattle.machine.specs.Answers.{Reply}
-use Rattle.machine.specs.State.{State}
+use Rattle.machine.specs.Questions.{exists, is_source, same_kind}
+use Rattle.machine.specs.State.{State, area}
 use Rattle.machine.specs.Step.{step, boot}
 use Rattle.machine.specs.Runs.{Line, after, lines}
-use Rattle.machine.specs.Isolation.{is_of, Sight, sight, sights, Sheet, answers_to}
-use Rattle.machine.specs.Isolation.{kept as is_kept}
+use Rattle.machine.specs.Isolation as machine
+use Rattle.machine.specs.Isolation.{kept, is_of, Sight, sight, sights, Sheet, sheet, answers_to}
+use Rattle.machine.specs.Partitions.{bit}
+use Rattle.machine.specs.Circle.{Circle, Fine, circle_of}
+use Rattle.machine.proofs.Rounds.{circled}
 use Rattle.machine.proofs.Theorem.{isolated}
 use Rattle.machine.specs.Laws.{Bounded}
-use Rattle.machine.proofs.Integrity.{preserving}
-use Rattle.machine.proofs.Schedules.{single, scheduled}
+use Rattle.machine.proofs.Integrity.{integral, preserved}
+use Rattle.machine.proofs.Refusals.{unmoved}
+use Rattle.machine.proofs.Schedules.{single, scheduled, planned}
 use Rattle.machine.proofs.Bounds.{bounded}
-use Rattle.machine.specs.Integrity.{Preserving}
-use Rattle.kernel.specs.World.{World, ended}
-use Rattle.kernel.specs.Promises.{picked, Isolating, Lawful}
+use Rattle.kernel.specs.World.{World, Moved, gives, stepped, ended}
+use Rattle.kernel.specs.Promises.{picked, Isolating, Apart, Unmoved, Planned, Lawful, Preserving}
+
+source : (d : Direction) → is_source d ≡ true → d ≡ Source
+source Source e = refl
+source Destination e = cc
+
+destination : (d : Direction) → is_source d ≡ false → d ≡ Destination
+destination Source e = cc
+destination Destination e = refl
+
+queuing : (c : ChannelKind) → same_kind c Queuing ≡ true → c ≡ Queuing
+queuing Sampling e = cc
+queuing Queuing e = refl
+
+-- what the vector says of its ports is what isolation asks
+fair : (k : Tables) → Fair k → machine.Fair k
+fair k f = (
+  (λ i j a b e s t. f.2 i j (a, b, e) (source _ s) (source _ t)),
+  (λ i j a b e q s t. f.3 i j (a, b, e) (queuing _ q) (destination _ s) (destination _ t)),
+)
 
 picked_all : (p : ℕ) (k : Tables) (h : List Event) (s : State) → picked k p (lines k s h) ≡ answers_to p k s h
 unfolding lines
@@ -35,7 +62,7 @@ last_of d (x ∷ xs) = last_of x xs
 last-sight : (p : ℕ) (M : ℕ → Bool) (k : Tables) (h : List Event) (s : State) (d : Sight) → last_of d (sights p M k s h) ≡ sight p (after k s h)
 unfolding after
 last-sight p M k [] s d = refl
-last-sight p M k (e ∷ es) s d = one (is_kept k M e) _ _ _ (last-sight p M k es (step k s e).state)
+last-sight p M k (e ∷ es) s d = one (kept k M e) _ _ _ (last-sight p M k es (step k s e).state)
   where
     one : (b : Bool) (x : Sight) (xs : List Sight) (y : Sight) → ((d : Sight) → last_of d xs ≡ y) → last_of d (cond b (x ∷ xs) xs) ≡ y
     one true x xs y f = f x
@@ -43,7 +70,7 @@ last-sight p M k (e ∷ es) s d = one (is_kept k M e) _ _ _ (last-sight p M k es
 
 pub isolating : (k : Tables) (ms : List (List ℕ)) (h : List Event) (ls : List Line) (w : World) → Fair k → w ≡ ended k ms h → ls ≡ lines k (boot k ms) h → Isolating k ms h ls w.state
 isolating k ms h ls w n e f p x y M c ns l a b z i q =
-    let v = isolated k n.2 n.3 ms h p x y M c ns l a b z i q in (
+    let v = isolated k (fair k n) ms h p x y M c ns l a b z i q in (
       ap (picked k p) f ∙ (picked_all p k h (boot k ms) ∙ ap (λ (v : Sheet). v.told) v),
       ap (λ (u : World). sight p u.state) e
           ∙ (sym (last-sight p M k h (boot k ms) (sight p (boot k ms)))
@@ -51,13 +78,33 @@ isolating k ms h ls w n e f p x y M c ns l a b z i q =
       v,
     )
 
--- what the machine's run has, a run that ends where it ends has too
-pub kept : (k : Tables) (ms : List (List ℕ)) (h : List Event) (w : World) → w ≡ ended k ms h → Preserving k h ms w.state.areas × Lawful k w.state.core
-kept k ms h w e = (
-  subst (λ (u : World). Preserving k h ms u.state.areas) (sym e) (preserving k (boot k ms) h),
-  record {
-    bounded = subst (λ (u : World). Bounded k u.state.core) (sym e) (bounded k ms h);
-    single = single k w.state.core;
-    scheduled = scheduled k w.state.core;
-  },
-)
+pub preserving : (k : Tables) (ms : List (List ℕ)) (h : List Event) (w : World) → w ≡ ended k ms h → Preserving k h ms w.state.areas
+preserving k ms h w e r n = ap (λ (u : World). area u.state.areas r) e ∙ preserved k (boot k ms) h r n
+
+pub apart : (w v : World) (e : Event) (r : Reply) → gives v r ≡ stepped e w → Apart w.tables e w.state.areas v.state.areas
+apart w v e r m q t o c n = ap (λ (u : Moved). area u.result.state.areas t) m ∙ integral w.tables w.state e q t o c n
+
+pub unmoved-by : (w v : World) (e : Event) (r : Reply) → gives v r ≡ stepped e w → Unmoved r w v
+unmoved-by w v e r m n c =
+    let a = ap (λ (u : Moved). u.result.reply.code) m in
+    let s = ap (λ (u : Moved). u.result.state) m ∙ unmoved w.tables w.state e n (sym a ∙ c) in
+    ap₂ (λ (k : Tables) (x : State). record { tables = k; state = x }) (ap (λ (u : Moved). u.tables) m) s
+
+pub planned-by : (w v : World) (e : Event) (r : Reply) → gives v r ≡ stepped e w → Planned e w v
+planned-by w v e r m h = ap (λ (u : Moved). u.result.state.core.clock.plan) m ∙ planned w.tables w.state e h
+
+pub lawful : (k : Tables) (ms : List (List ℕ)) (h : List Event) (w : World) → w ≡ ended k ms h → Lawful k w.state.core
+lawful k ms h w e =
+    record {
+      bounded = subst (λ (u : World). Bounded k u.state.core) (sym e) (bounded k ms h);
+      single = single k w.state.core;
+      scheduled = scheduled k w.state.core;
+    }
+
+-- the mask that is answered is the circle
+pub mask-least : (k : Tables) (p : ℕ) → Fine k → (r : Option ℕ) → r ≡ cond (exists k p) (Some (circle_of k p)) None → IfSome r (λ m. Circle k p (bit m))
+mask-least k p f r e = subst (λ (o : Option ℕ). IfSome o (λ m. Circle k p (bit m))) (sym e) (either (exists k p) refl)
+  where
+    either : (b : Bool) → exists k p ≡ b → IfSome (cond b (Some (circle_of k p)) None) (λ m. Circle k p (bit m))
+    either true h = circled k f p h
+    either false h = tt

@@ -1,17 +1,18 @@
 -- What the core promises of isolation and integrity: the machine's statements, of this very run.
-use Rattle.std.specs.Prelude.{◌≡◌, ℕ, Bool, true, false, cond, List, [], ◌∷◌, length}
+use Rattle.std.specs.Prelude.{◌≡◌, ℕ, Bool, true, false, cond, List, [], ◌∷◌, length, negsuc, ◌≢◌}
 use Rattle.vector.specs.declared.tables.Tables.{Tables}
+use Rattle.vector.specs.Names.{any}
 use Rattle.machine.specs.declared.event.Event.{Event}
 use Rattle.machine.specs.Answers.{Reply}
 use Rattle.machine.specs.Questions.{exists, is_system}
 use Rattle.machine.specs.State.{Core, State, area}
 use Rattle.machine.specs.Step.{boot, fits, running}
-use Rattle.machine.specs.Integrity.{Preserving}
-use Rattle.machine.specs.Laws.{Bounded, Single, Scheduled}
-use Rattle.kernel.specs.World.{World, ended}
-use Rattle.machine.specs.Runs.{Line, after, lines}
+use Rattle.machine.specs.Laws.{Bounded, Single, Scheduled, replans}
+use Rattle.kernel.specs.World.{World}
+use Rattle.machine.specs.Runs.{Line, after}
 use Rattle.machine.specs.Circle.{Circle}
 use Rattle.machine.specs.Isolation.{strike, is_of, sight, answers_to, sheet}
+use Rattle.machine.specs.Integrity.{is_cold_reset, reaches}
 
 -- of the lines of a history, the answers to the events of p
 abbrev pub picked : Tables → ℕ → List Line → List Reply
@@ -31,6 +32,19 @@ Isolating k ms h ls s =
     × (sight p s ≡ sight p (after k (boot k ns) i))
     × (sheet p M k (boot k ms) h ≡ sheet p M k (boot k ns) i)
 
+-- an event of partition q that found the areas ms and left ns: every area but q's own is as it was,
+-- save after a system partition's cold reset
+abbrev pub Apart : Tables → Event → List (List ℕ) → List (List ℕ) → Type 0
+Apart k e ms ns = (q r : ℕ) → is_of k q e ≡ true → is_cold_reset k e ≡ false → (r ≢ q) → area ns r ≡ area ms r
+
+-- an event that was refused left everything as it was, the areas too
+abbrev pub Unmoved : Reply → World → World → Type 0
+Unmoved r w v = (n : ℕ) → r.code ≡ negsuc n → v ≡ w
+
+-- an event left the plan as it was, unless a frame ended or the system was reset
+abbrev pub Planned : Event → World → World → Type 0
+Planned e w v = replans w.tables w.state e ≡ false → v.state.core.clock.plan ≡ w.state.core.clock.plan
+
 -- what holds of every system that was run: nothing is pending for a HALTED partition, log and channels keep within their bounds,
 -- and at most one partition is on the processor, READY and with its slot running
 pub record Lawful (k : Tables) (x : Core) : Type 0 where
@@ -38,11 +52,6 @@ pub record Lawful (k : Tables) (x : Core) : Type 0 where
   pub single : Single k x
   pub scheduled : (q : ℕ) → running k x q ≡ true → Scheduled k x q
 
--- what a run of the history h on the areas ms is: it ends where the machine's does, with the machine's answers, and keeps
--- what every run keeps
-pub record Ran (k : Tables) (ms : List (List ℕ)) (h : List Event) (ls : List Line) (w : World) : Type 0 where
-  pub ends : w ≡ ended k ms h
-  pub told : ls ≡ lines k (boot k ms) h
-  pub isolated : Isolating k ms h ls w.state
-  pub preserved : Preserving k h ms w.state.areas
-  pub lawful : Lawful k w.state.core
+-- a history that found the areas ms and left ns: an area that none of its events reaches is as it was
+abbrev pub Preserving : Tables → List Event → List (List ℕ) → List (List ℕ) → Type 0
+Preserving k h ms ns = (r : ℕ) → any (reaches k r) h ≡ false → area ns r ≡ area ms r

@@ -2,7 +2,7 @@
 use Rattle.std.specs.Prelude.{ℕ, ◌<◌, ◌≤◌, slice_index_or}
 use Rattle.vector.specs.declared.tables.Plans.{Plans}
 use Rattle.vector.specs.declared.tables.Tables.{Tables}
-use Rattle.vector.specs.Fair.{channel_of}
+use Rattle.vector.specs.Fair.{channel_at}
 use Rattle.vector.specs.Blank.{slot0}
 use Rattle.machine.specs.Time.{plan_at}
 
@@ -24,4 +24,4 @@ Owned ps = (i j : ℕ) → i < ps.count → j < (plan_at ps i).count → (slice_
 
 -- the channel of each port takes messages of at most 64 bytes, and at most 8 of them
 abbrev pub Bounded : Tables → Type 0
-Bounded t = (i : ℕ) → i < t.ports.count → ((channel_of i t).longest ≤ 64) × ((channel_of i t).depth ≤ 8)
+Bounded t = (i : ℕ) → i < t.ports.count → ((channel_at t i).longest ≤ 64) × ((channel_at t i).depth ≤ 8)

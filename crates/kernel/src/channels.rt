@@ -1,5 +1,5 @@
 // The channels' messages: a ring of eight cells for each. A channel's depth is kept by counting.
-ghost use Rattle.std.specs.Prelude.{◌≡◌, ◌<◌, ◌≤◌, [], ◌∷◌, ◌++◌, length, replicate, slice_set};
+ghost use Rattle.std.specs.Prelude.{◌≡◌, ℕ, ◌<◌, ◌≤◌, true, List, [], ◌∷◌, ◌++◌, length, replicate, slice_set};
 ghost use Rattle.std.specs.Option.{option_map};
 ghost use Rattle.queue.specs.Ring.{first, rest};
 ghost use Rattle.machine.specs.Letters.{letter_of};

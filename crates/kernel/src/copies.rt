@@ -1,5 +1,5 @@
 // Bytes from an area, and back into it.
-ghost use Rattle.std.specs.Prelude.{◌≡◌, ◌+◌, ◌^◌, ◌<◌, ◌≤◌, length, slice_set};
+ghost use Rattle.std.specs.Prelude.{◌≡◌, ℕ, ◌+◌, ◌^◌, ◌<◌, ◌≤◌, length, slice_set};
 ghost use Rattle.vector.specs.Names.{padded};
 ghost use Rattle.machine.specs.Letters.{letter_of};
 ghost use Rattle.machine.specs.State.{area};

@@ -1,5 +1,5 @@
 // The health monitor at work: faults, the log, and the calls on the system.
-ghost use Rattle.std.specs.Prelude.{◌≡◌, ◌<◌, true};
+ghost use Rattle.std.specs.Prelude.{◌≡◌, ℕ, ◌<◌, ◌≤◌, true};
 ghost use Rattle.machine.specs.Answers.{reply_of};
 ghost use Rattle.machine.specs.declared.answer.Answer.TheVariants.{Responded};
 ghost use Rattle.machine.specs.Faults.{logged, carried, restarted, system_carried, strayed};

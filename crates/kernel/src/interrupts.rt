@@ -1,17 +1,25 @@
 // The calls on interrupts, and the signals of lines.
-ghost use Rattle.std.specs.Prelude.{◌≡◌, ◌<◌, if◌then◌else◌};
+ghost use Rattle.std.specs.Prelude.{◌≡◌, ℕ, ◌^◌, ◌<◌, ◌≤◌, if◌then◌else◌};
 ghost use Rattle.machine.specs.Answers.{reply_of};
-ghost use Rattle.machine.specs.Partitions.{signalled};
+ghost use Rattle.machine.specs.Partitions.{bit, signalled};
 ghost use Rattle.machine.specs.Interrupts.{raised, raise_ipvi, get_irqs, set_irq_mask, clear_irq_mask, clear_irq_pending};
 ghost use Rattle.machine.specs.Interrupts.{line as line_of};
 ghost use Rattle.kernel.specs.World.{core_of, world_of, gives, settled, performed};
 
 use crate::whole::System;
 use board::Board;
-use lookup::{is_member, mask_of, owner_of};
+use lookup::{mask_of, owner_of};
 use machine::answer::{Answer, Refusal};
 use machine::event::Args;
 use machine::partition::Partition;
+
+/// Whether the mask names the partition i.
+fn is_named(mask: u8, i: usize) -> bool
+    requires { i < 8 }
+    ensures { result ≡ bit mask i }
+{
+    mask & (1 << i) != 0
+}
 
 /// Signals bits to a partition, where it is named.
 fn hit(partition: &mut Partition, named: bool, bits: u32)
@@ -27,7 +35,7 @@ fn raise(parts: &mut [Partition; 8], mask: u8, bits: u32)
     ensures { parts.new ≡ raised mask bits 8 parts.old }
 {
     for i in 0..8 {
-        hit(&mut parts[i], is_member(mask, i as u8), bits);
+        hit(&mut parts[i], is_named(mask, i), bits);
     }
 }
 

@@ -1,5 +1,5 @@
 // The log: the last 32 entries.
-ghost use Rattle.std.specs.Prelude.{◌≡◌, [], length};
+ghost use Rattle.std.specs.Prelude.{◌≡◌, List, [], length};
 ghost use Rattle.queue.specs.Ring.{first, rest, over};
 ghost use Rattle.kernel.specs.Logs.{log_of, Noted};
 

@@ -1,5 +1,5 @@
 // The calls on time, partitions and plans.
-ghost use Rattle.std.specs.Prelude.{◌≡◌, ◌<◌};
+ghost use Rattle.std.specs.Prelude.{◌≡◌, ℕ, ◌<◌, ◌≤◌};
 ghost use Rattle.machine.specs.Answers.{reply_of};
 ghost use Rattle.machine.specs.Management.{get_time, get_partition_status, halt_partition, suspend_partition, resume_partition, reset_partition, idle_self, switch_plan, gaps, get_plan_status};
 ghost use Rattle.machine.specs.Questions.{plan, slots_of};

@@ -1,5 +1,5 @@
 // The health monitor: what the fault table decides, a token that must be spent.
-ghost use Rattle.std.specs.Prelude.{◌≡◌, ◌<◌, ◌≤◌};
+ghost use Rattle.std.specs.Prelude.{◌≡◌, ℕ, ◌<◌, ◌≤◌};
 ghost use Rattle.kernel.specs.Decisions.{decided, decided_whole};
 
 use vector::tables::{Response, Tables};

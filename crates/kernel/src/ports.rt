@@ -1,5 +1,5 @@
 // The calls on ports and channels.
-ghost use Rattle.std.specs.Prelude.{◌≡◌, ◌<◌, ◌≤◌, true, ◌&&◌, if◌then◌else◌, slice_index, slice_index_or};
+ghost use Rattle.std.specs.Prelude.{◌≡◌, ℕ, ◌<◌, ◌≤◌, true, ◌&&◌, if◌then◌else◌, slice_index, slice_index_or};
 ghost use Rattle.machine.specs.Answers.{reply_of};
 ghost use Rattle.machine.specs.Partitions.{nobody, is_open, signalled};
 ghost use Rattle.machine.specs.Ports.{message_bit, alerted, agrees, deepens, create_sampling_port, create_queuing_port, write_sampling_message, send_queuing_message, read_sampling_message, receive_queuing_message, get_queuing_status};

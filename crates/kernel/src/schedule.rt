@@ -1,5 +1,5 @@
 // Who is on the processor.
-ghost use Rattle.std.specs.Prelude.{◌≡◌, ◌≤◌};
+ghost use Rattle.std.specs.Prelude.{◌≡◌, ℕ, ◌≤◌};
 ghost use Rattle.vector.specs.Fair.{Within};
 ghost use Rattle.vector.specs.Sound.{SoundPlan};
 ghost use Rattle.machine.specs.Questions.{slots_of, covers, holder};

@@ -1,6 +1,5 @@
 // What each event does.
-ghost use Rattle.std.specs.Prelude.{◌≡◌, ◌<◌, true, false, IfSome, if◌then◌else◌, Some, None};
-ghost use Rattle.board.specs.Areas.{loaded};
+ghost use Rattle.std.specs.Prelude.{◌≡◌, ℕ, ◌<◌, ◌≤◌, true, IfSome, if◌then◌else◌, Some, None};
 ghost use Rattle.vector.specs.Reading.{tables as tables_of};
 ghost use Rattle.machine.specs.Answers.{reply_of};
 ghost use Rattle.machine.specs.Partitions.{bit};
@@ -10,8 +9,7 @@ ghost use Rattle.machine.specs.Calls.{called};
 ghost use Rattle.machine.specs.Calls.{perform as perform_of};
 ghost use Rattle.machine.specs.State.{area};
 ghost use Rattle.machine.specs.Step.{running, load, store, tick};
-ghost use Rattle.machine.specs.Integrity.{Apart};
-ghost use Rattle.machine.specs.Laws.{Planned, Unmoved};
+ghost use Rattle.kernel.specs.Promises.{Apart, Planned, Unmoved};
 ghost use Rattle.kernel.specs.World.{core_of, world_of, gives, settled, performed, stepped, booted};
 
 use crate::areas::is_fitting;
@@ -181,14 +179,11 @@ impl<B: Board> System<B> {
     /// partition leaves every other area as it was, save a system partition's cold reset.
     pub fn event(&mut self, e: Event) -> Answer
         ensures is { gives (world_of areas self.new) (reply_of result) ≡ stepped e (world_of areas self.old) }
-        ensures unmoved { Unmoved (reply_of result) (world_of areas self.old).state (world_of areas self.new).state }
-        ensures planned { Planned self.old.core.tables e (world_of areas self.old).state (world_of areas self.new).state }
+        ensures unmoved { Unmoved (reply_of result) (world_of areas self.old) (world_of areas self.new) }
+        ensures planned { Planned e (world_of areas self.old) (world_of areas self.new) }
         ensures apart { Apart self.old.core.tables e (areas self.old.board) (areas self.new.board) }
     {
-        if self.core.halted {
-            return Answer::Refused(Refusal::SystemHalted);
-        }
-        self.take(e)
+        self.handle(e)
     }
 
     /// The circle of a partition as a mask, or none where the vector has no such partition.
@@ -199,29 +194,13 @@ impl<B: Board> System<B> {
         circle(&self.core.tables, partition)
     }
 
-    /// Takes one event of a system that is not halted, with what the machine's laws say of it.
-    fn take(&mut self, e: Event) -> Answer
-        requires { self.old.core.halted ≡ false }
-        ensures is { gives (world_of areas self.new) (reply_of result) ≡ stepped e (world_of areas self.old) }
-        ensures unmoved { Unmoved (reply_of result) (world_of areas self.old).state (world_of areas self.new).state }
-        ensures planned { Planned self.old.core.tables e (world_of areas self.old).state (world_of areas self.new).state }
-        ensures apart { Apart self.old.core.tables e (areas self.old.board) (areas self.new.board) }
-    {
-        self.handle(e)
-    }
-
-    /// The byte at a place of a partition's area, for who looks at the board when the events are over; none outside the area.
-    pub fn byte(&self, partition: u8, offset: usize) -> Option<u8>
-        ensures { result ≡ loaded (areas self.now.board) partition offset }
-    {
-        self.board.load(usize::from(partition), offset)
-    }
-
-    /// Decides what an event does, while the system is not halted.
+    /// Decides what an event does.
     fn handle(&mut self, e: Event) -> Answer
-        requires { self.old.core.halted ≡ false }
         ensures { gives (world_of areas self.new) (reply_of result) ≡ stepped e (world_of areas self.old) }
     {
+        if self.core.halted {
+            return Answer::Refused(Refusal::SystemHalted);
+        }
         match e {
             Event::Tick { time } => self.tick(time),
             Event::Call {

@@ -1,12 +1,21 @@
 // The circle of a partition, as a mask.
-ghost use Rattle.std.specs.Prelude.{◌≡◌, ◌<◌, ◌≤◌, IfSome, if◌then◌else◌, Some, None};
+ghost use Rattle.std.specs.Prelude.{◌≡◌, ℕ, ◌<◌, ◌≤◌, ◌&&◌, if◌then◌else◌, Some, None};
 ghost use Rattle.machine.specs.Partitions.{bit};
-ghost use Rattle.machine.specs.Questions.{exists};
-ghost use Rattle.machine.specs.Circle.{Circle, feeds, joined, with_pair, with_port, with_raiser, with_links, grown, circle_of};
+ghost use Rattle.machine.specs.Questions.{exists, same_kind};
+ghost use Rattle.machine.specs.Circle.{feeds, joined, with_pair, with_port, with_raiser, with_links, grown, circle_of};
 ghost use Rattle.lookup.specs.Bounds.{Ported, Joined};
 
-use crate::tables::{is_kind, is_member, is_source, is_system, mask_of};
+use crate::tables::{is_source, is_system, mask_of};
 use vector::tables::{ChannelKind, Tables};
+
+fn is_queuing(kind: ChannelKind) -> bool
+    ensures { result ≡ same_kind kind ChannelKind.Queuing }
+{
+    match kind {
+        ChannelKind::Queuing => true,
+        ChannelKind::Sampling => false,
+    }
+}
 
 /// Whether port i is a source and port j a destination of one channel.
 fn is_feeding(tables: &Tables, i: usize, j: usize) -> bool
@@ -18,6 +27,14 @@ fn is_feeding(tables: &Tables, i: usize, j: usize) -> bool
     is_source(source.direction)
         && destination.channel == source.channel
         && !is_source(destination.direction)
+}
+
+/// Whether the mask has the partition.
+fn has(mask: u8, q: u8) -> bool
+    requires { q < 8 }
+    ensures { result ≡ bit mask q }
+{
+    mask & (1 << q) != 0
 }
 
 /// The mask with the partition in it, where the test holds.
@@ -39,10 +56,9 @@ fn with_pair(tables: &Tables, i: usize, j: usize, mask: u8) -> u8
     let writer = tables.ports.rows[i].partition;
     let reader = tables.ports.rows[j].partition;
     let feeds = is_feeding(tables, i, j);
-    let kind = tables.channels.rows[tables.ports.rows[i].channel as usize].kind;
-    let queuing = is_kind(kind, ChannelKind::Queuing);
-    let more = join(feeds && is_member(mask, reader), writer, mask);
-    join(feeds && queuing && is_member(more, writer), reader, more)
+    let queuing = is_queuing(tables.channels.rows[tables.ports.rows[i].channel as usize].kind);
+    let more = join(feeds && has(mask, reader), writer, mask);
+    join(feeds && queuing && has(more, writer), reader, more)
 }
 
 /// Port i with every port.
@@ -96,15 +112,16 @@ fn with_round(tables: &Tables, mask: u8) -> u8
     found
 }
 
-/// The circle of a partition that is there: eight rounds, from it and the system partitions on.
-fn circle_of(tables: &Tables, partition: u8) -> u8
-    requires there { partition < tables.now.partitions.count }
+/// The circle of a partition: bit i is set where partition i is in it.
+pub fn circle(tables: &Tables, partition: u8) -> Option<u8>
     requires few { tables.now.partitions.count ≤ 8 }
     requires ported { Ported tables.now.ports }
     requires joined { Joined tables.now.ports }
-    ensures is { result ≡ circle_of tables.now partition }
-    ensures least { Circle tables.now partition (bit result) }
+    ensures { result ≡ (if exists tables.now partition then Some (circle_of tables.now partition) else None) }
 {
+    if partition as usize >= tables.partitions.count {
+        return None;
+    }
     let mut found = 1u8 << partition;
     for q in 0..tables.partitions.count {
         found = join(is_system(tables, q as u8), q as u8, found);
@@ -112,19 +129,5 @@ fn circle_of(tables: &Tables, partition: u8) -> u8
     for round in 0..8usize {
         found = with_round(tables, found);
     }
-    found
-}
-
-/// The circle of a partition, the least set that nothing outside it reaches: bit i is set where partition i is in it.
-pub fn circle(tables: &Tables, partition: u8) -> Option<u8>
-    requires few { tables.now.partitions.count ≤ 8 }
-    requires ported { Ported tables.now.ports }
-    requires joined { Joined tables.now.ports }
-    ensures is { result ≡ (if exists tables.now partition then Some (circle_of tables.now partition) else None) }
-    ensures least { IfSome result (λ m. Circle tables.now partition (bit m)) }
-{
-    if partition as usize >= tables.partitions.count {
-        return None;
-    }
-    Some(circle_of(tables, partition))
+    Some(found)
 }

@@ -2,14 +2,13 @@
 use Rattle.std.proofs.Common.{◌≡◌, ℕ, Bool, true, false, cond, not, List, [], ◌∷◌, length, replicate, Some, None, Option, sym, refl, ap, ◌∙◌, ap₂}
 use Rattle.std.proofs.lemmas.Bool.{both_ways, ne_eqb}
 use Rattle.vector.specs.declared.tables.Tables.{Tables}
-use Rattle.vector.specs.Fair.{OneSource, OneDestination}
 use Rattle.machine.specs.declared.event.Event.{Event}
 use Rattle.machine.specs.Answers.{Reply}
 use Rattle.machine.specs.Partitions.{nobody, fresh}
 use Rattle.machine.specs.Questions.{is_system, names}
 use Rattle.machine.specs.State.{State, area}
 use Rattle.machine.specs.Step.{step, boot, fits}
-use Rattle.machine.specs.Isolation.{whose, is_of, stays, kept, strike, Sight, sight, answers_to, sights, sheet, Isolated}
+use Rattle.machine.specs.Isolation.{Fair, whose, is_of, stays, kept, strike, Sight, sight, answers_to, sights, sheet, Isolated}
 use Rattle.machine.proofs.Agree.{agree_refl}
 use Rattle.machine.proofs.Sealed.{Sealed, seen, sealed}
 use Rattle.machine.proofs.Steps.{Like, like_refl, like_sym, like_trans, step_steady, step_quiet}
@@ -71,7 +70,7 @@ booted k M C ms ns l f g a =
       areas = record { long = l; at = a };
     }
 
-pub isolated : (k : Tables) → OneSource k → OneDestination k → (ms : List (List ℕ)) (h : List Event) → Isolated k ms h
-isolated k u v ms h p e n M c ns l f g a i j =
+pub isolated : (k : Tables) → Fair k → (ms : List (List ℕ)) (h : List Event) → Isolated k ms h
+isolated k v ms h p e n M c ns l f g a i j =
     let C = seen k M in
-    meet k M C (sealed k M c.closed u v) p c.itself n (boot k ms) (boot k ns) (booted k M C ms ns l f g a) h i j
+    meet k M C (sealed k M c.closed v) p c.itself n (boot k ms) (boot k ns) (booted k M C ms ns l f g a) h i j

@@ -1,6 +1,7 @@
 -- The numbers of each answer: a code and the values a and b, 0 where the answer names none.
 use Rattle.std.specs.Prelude.{ℕ, ◌+◌, ◌*◌, ℤ, pos, negsuc}
-use Rattle.vector.specs.Encoding.{action_number}
+use Rattle.vector.specs.declared.tables.Action.{Action}
+use Rattle.vector.specs.declared.tables.Action.TheVariants.{Ignore, Signal, Suspend, Halt, WarmReset, ColdReset}
 use Rattle.machine.specs.declared.partition.Status.{Status}
 use Rattle.machine.specs.declared.partition.Status.TheVariants.{Halted, Ready, Idle, Suspended}
 use Rattle.machine.specs.declared.log.Entry.{Entry}
@@ -26,6 +27,14 @@ refusal_code NotAvailable = negsuc 6
 refusal_code OpNotAllowed = negsuc 7
 refusal_code NotOnProcessor = negsuc 8
 refusal_code SystemHalted = negsuc 9
+
+abbrev pub action_number : Action → ℕ
+action_number Ignore = 0
+action_number Signal = 1
+action_number Suspend = 2
+action_number Halt = 3
+action_number WarmReset = 4
+action_number ColdReset = 5
 
 abbrev pub status_number : Status → ℕ
 status_number Halted = 4

@@ -5,8 +5,10 @@ use Rattle.vector.specs.declared.tables.Tables.{Tables}
 use Rattle.machine.specs.declared.event.Event.{Event}
 use Rattle.machine.specs.declared.event.Event.TheVariants.{Tick, Call, Load, Store, Fault, Line, SystemFault}
 use Rattle.machine.specs.Questions.{is_system}
-use Rattle.machine.specs.State.{area}
+use Rattle.machine.specs.State.{State, area}
 use Rattle.machine.specs.Management.{arg}
+use Rattle.machine.specs.Step.{step}
+use Rattle.machine.specs.Runs.{after}
 use Rattle.machine.specs.Isolation.{is_of}
 
 -- a cold reset: call 5 or 23 with mode 1
@@ -23,10 +25,11 @@ is_cold_reset k (Fault q e) = false
 is_cold_reset k (Line l) = false
 is_cold_reset k (SystemFault e) = false
 
--- an event of partition q that found the areas ms and left ns: every area but q's own is as it was,
--- save after a system partition's cold reset
-abbrev pub Apart : Tables → Event → List (List ℕ) → List (List ℕ) → Type 0
-Apart k e ms ns = (q r : ℕ) → is_of k q e ≡ true → is_cold_reset k e ≡ false → (r ≢ q) → area ns r ≡ area ms r
+-- in every state: an event of partition q leaves every area but q's own as it was, save a system partition's cold reset
+abbrev pub Integral : Tables → State → Event → Type 0
+Integral k s e =
+    (q r : ℕ) → is_of k q e ≡ true → is_cold_reset k e ≡ false → (r ≢ q) →
+    area (step k s e).state.areas r ≡ area s.areas r
 
 abbrev pub is_system_fault : Event → Bool
 is_system_fault (Tick t) = false
@@ -41,6 +44,6 @@ is_system_fault (SystemFault e) = true
 abbrev pub reaches : Tables → ℕ → Event → Bool
 reaches k r e = is_of k r e || (is_cold_reset k e || is_system_fault e)
 
--- a history that found the areas ms and left ns: an area that none of its events reaches is as it was
-abbrev pub Preserving : Tables → List Event → List (List ℕ) → List (List ℕ) → Type 0
-Preserving k h ms ns = (r : ℕ) → any (reaches k r) h ≡ false → area ns r ≡ area ms r
+-- an area stays through every history of events none of which reaches it
+abbrev pub Preserved : Tables → State → List Event → Type 0
+Preserved k s h = (r : ℕ) → any (reaches k r) h ≡ false → area (after k s h).areas r ≡ area s.areas r

@@ -1,5 +1,5 @@
 -- Isolation: what a partition is answered, and what it looks like, does not depend on the outsiders of its circle.
-use Rattle.std.specs.Prelude.{◌≡◌, ℕ, Bool, true, false, cond, List, [], ◌∷◌, length, Some, None, Option, nat_lt, slice_index_or}
+use Rattle.std.specs.Prelude.{◌≡◌, ℕ, ◌<◌, Bool, true, false, cond, List, [], ◌∷◌, length, Some, None, Option, nat_lt, slice_index_or}
 use Rattle.vector.specs.declared.tables.Tables.{Tables}
 use Rattle.machine.specs.declared.partition.Partition.{Partition}
 use Rattle.machine.specs.declared.clock.Clock.{Clock}
@@ -7,10 +7,26 @@ use Rattle.machine.specs.declared.event.Event.{Event}
 use Rattle.machine.specs.declared.event.Event.TheVariants.{Tick, Call, Load, Store, Fault, Line, SystemFault}
 use Rattle.machine.specs.Answers.{Reply}
 use Rattle.machine.specs.Partitions.{nobody}
-use Rattle.machine.specs.Questions.{exists, is_system, names, owner}
+use Rattle.machine.specs.Questions.{exists, is_system, names, owner, channel_of}
 use Rattle.machine.specs.State.{State, area}
 use Rattle.machine.specs.Step.{step, boot, fits}
-use Rattle.machine.specs.Circle.{Circle}
+use Rattle.machine.specs.Circle.{is_source_port, is_queuing, Circle}
+
+-- two source ports of one channel are one port
+abbrev pub OneWriter : Tables → Type 0
+OneWriter k =
+    (i j : ℕ) → i < k.ports.count → j < k.ports.count → channel_of k i ≡ channel_of k j →
+    is_source_port k i ≡ true → is_source_port k j ≡ true → i ≡ j
+
+-- two destination ports of one queuing channel are one port
+abbrev pub OneReader : Tables → Type 0
+OneReader k =
+    (i j : ℕ) → i < k.ports.count → j < k.ports.count → channel_of k i ≡ channel_of k j → is_queuing k i ≡ true →
+    is_source_port k i ≡ false → is_source_port k j ≡ false → i ≡ j
+
+-- what isolation asks of the tables, and every checked vector gives
+abbrev pub Fair : Tables → Type 0
+Fair k = OneWriter k × OneReader k
 
 -- a partition of the vector, by its number
 abbrev pub existing : Tables → ℕ → Option ℕ

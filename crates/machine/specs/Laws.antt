@@ -10,18 +10,16 @@ use Rattle.machine.specs.declared.partition.Status.TheVariants.{Halted, Ready}
 use Rattle.machine.specs.declared.event.Event.{Event}
 use Rattle.machine.specs.declared.event.Event.TheVariants.{Tick, Call, Load, Store, Fault, Line, SystemFault}
 use Rattle.machine.specs.declared.log.Entry.{Entry}
-use Rattle.machine.specs.Answers.{Reply}
 use Rattle.machine.specs.Letters.{Letter}
 use Rattle.machine.specs.Partitions.{nobody}
 use Rattle.machine.specs.Questions.{exists, is_system, plan, slots_of, holder}
 use Rattle.machine.specs.State.{Core, State}
 use Rattle.machine.specs.Time.{plan_at, rolled}
-use Rattle.machine.specs.Step.{running}
+use Rattle.machine.specs.Step.{running, step}
 
--- An event that found the state s was answered r and left t: a refusal moves nothing, so after a negative code all is as it was,
--- the areas too.
-abbrev pub Unmoved : Reply → State → State → Type 0
-Unmoved r s t = (n : ℕ) → r.code ≡ negsuc n → t ≡ s
+-- A refusal moves nothing: after a negative code all is as it was, the areas too.
+abbrev pub Unmoved : Tables → State → Event → Type 0
+Unmoved k s e = (n : ℕ) → (step k s e).reply.code ≡ negsuc n → (step k s e).state ≡ s
 
 -- At most one partition is on the processor.
 abbrev pub Single : Tables → Core → Type 0
@@ -93,6 +91,6 @@ replans k s (Fault q e) = false
 replans k s (Line l) = false
 replans k s (SystemFault e) = true
 
--- An event that found the state s left t: no other event changes the plan, so plans switch where a frame ends.
-abbrev pub Planned : Tables → Event → State → State → Type 0
-Planned k e s t = replans k s e ≡ false → t.core.clock.plan ≡ s.core.clock.plan
+-- No other event does: plans switch where a frame ends.
+abbrev pub Planned : Tables → State → Event → Type 0
+Planned k s e = replans k s e ≡ false → (step k s e).state.core.clock.plan ≡ s.core.clock.plan

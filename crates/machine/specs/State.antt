@@ -1,6 +1,5 @@
 -- The state of the machine, and what an event comes to.
-use Rattle.std.specs.Prelude.{ℕ, zero, suc, Bool, true, false, List, length, replicate, pos, slice_index_or, slice_set}
-pub use Rattle.board.specs.Areas.{area}
+use Rattle.std.specs.Prelude.{ℕ, zero, suc, Bool, true, false, List, [], ◌∷◌, length, replicate, ℤ, pos, slice_index_or, slice_set}
 use Rattle.machine.specs.declared.partition.Partition.{Partition}
 use Rattle.machine.specs.declared.clock.Clock.{Clock}
 use Rattle.machine.specs.declared.log.Entry.{Entry}
@@ -84,6 +83,9 @@ with_halted x b = record { clock = x.clock; halted = b; parts = x.parts; chans =
 -- one partition, changed by a function
 abbrev pub modify : List Partition → ℕ → (Partition → Partition) → List Partition
 modify ps q f = slice_set ps q (f (slice_index_or ps q nobody))
+
+abbrev pub area : List (List ℕ) → ℕ → List ℕ
+area ms q = slice_index_or ms q []
 
 -- one area filled with zeros
 abbrev pub wiped : ℕ → List (List ℕ) → List (List ℕ)

@@ -1,7 +1,6 @@
 // What an event is answered, and the numbers of each answer.
-ghost use Rattle.std.specs.Prelude.{◌≡◌};
-ghost use Rattle.vector.specs.Encoding.{action_number};
-ghost use Rattle.machine.specs.Answers.{refusal_code, status_number, packed, reply_of};
+ghost use Rattle.std.specs.Prelude.{◌≡◌, ℤ};
+ghost use Rattle.machine.specs.Answers.{refusal_code, action_number, status_number, packed, reply_of};
 
 use crate::clock::Time;
 use crate::log::Entry;

@@ -1,6 +1,5 @@
 //! The machine: its vocabulary in plain types, and in specs/ its rules and what is proved of them.
-ghost use Rattle.std.specs.Prelude.{◌≡◌, length};
-ghost use Rattle.machine.specs.Examples.{worked, ExamplesStand};
+ghost use Rattle.machine.specs.Examples.{ExamplesStand};
 
 pub mod answer;
 pub mod clock;
@@ -9,16 +8,9 @@ pub mod log;
 pub mod message;
 pub mod partition;
 
-/// Each worked example is as the rules say.
-fn examples_hold()
+/// The worked examples of the rules stand.
+pub fn examples_stand() -> u8
     ensures { ExamplesStand }
-{}
-
-/// The worked examples of the rules stand; how many there are.
-pub fn examples_stand() -> usize
-    ensures stand { ExamplesStand }
-    ensures count { result ≡ length worked }
 {
-    examples_hold();
-    23
+    0
 }

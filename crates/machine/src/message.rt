@@ -27,19 +27,11 @@ impl Message {
         }
     }
 
-    /// Its bytes, without the zeros past its length.
-    fn content(&self) -> &[u8]
-        ensures is { result.now ≡ (letter_of self.now).bytes }
-        ensures short { length result.now ≤ 64 }
-    {
-        &self.bytes[..self.length.min(LONGEST)]
-    }
-
     /// How many bytes it has.
     pub fn size(&self) -> usize
         ensures is { result ≡ length (letter_of self.now).bytes }
         ensures short { result ≤ 64 }
     {
-        self.content().len()
+        self.length.min(LONGEST)
     }
 }

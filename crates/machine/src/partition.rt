@@ -1,5 +1,5 @@
 // The record of a partition, and what can happen to it.
-ghost use Rattle.std.specs.Prelude.{◌≡◌, ◌<◌};
+ghost use Rattle.std.specs.Prelude.{◌≡◌, ◌<◌, Bool};
 ghost use Rattle.machine.specs.Partitions.{fresh, is_ready, is_active, is_suspended, is_open, hidden, halted, suspended, resumed, idled, opened, masked, unmasked, acknowledged, signalled, woken};
 
 /// The state of a partition.

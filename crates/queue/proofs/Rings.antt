@@ -1,15 +1,14 @@
 -- A ring of cells, seen as the list of its entries.
-use Rattle.std.proofs.Common.{◌≡◌, ℕ, ◌+◌, ◌-◌, ◌<◌, ◌≤◌, true, eqb, ltb, List, [], ◌∷◌, ◌++◌, length, get_or, take, drop, set, Some, sym, ap, arith, drop-set-lt}
+use Rattle.std.proofs.Common.{◌≡◌, ℕ, ◌+◌, ◌-◌, ◌<◌, ◌≤◌, true, false, eqb, ltb, List, [], ◌∷◌, ◌++◌, length, get_or, take, drop, set, sym, refl, ap, ◌∙◌, arith, drop-set-lt}
 use lib.Seq.{take-set-lt}
-use Rattle.std.proofs.lemmas.List.{places, same_lists, take-take, length-take, length-drop, length-append, set-append_left, set-append_right, take_more_set, drop-set-add, take-set-le}
-use Rattle.std.proofs.lemmas.Bool.{eqb-true, eqb-false, cond_both, cond-true, lt-ltb, ltb-true, ltb-false}
-use Rattle.queue.specs.declared.Queue.{Queue}
-use Rattle.queue.specs.Ring.{items, entries, first, rest, pushed, next, spot, Sound}
+use Rattle.std.proofs.lemmas.List.{places, same_lists, length-take, length-drop, length-append, set-append_left, set-append_right, take_more_set, drop-set-add, take-set-le}
+use Rattle.std.proofs.lemmas.Bool.{eqb-true, eqb-false, cond_both, cond-true, cond-false, eq-eqb, ne_eqb, lt-ltb, le-ltb, ltb-true, ltb-false}
+use Rattle.queue.specs.Ring.{items, rest, pushed, over, next, spot}
 
 module _ {X : Type 0} where
-  pub counted : (q : Queue) (cells : List X) → Sound q cells → length (entries q cells) ≡ q.count
+  pub length-items : (h n : ℕ) (cells : List X) → n ≤ length cells → length (items h n cells) ≡ n
   unfolding items
-  counted q cells s = simp (length-take, length-append, length-drop) (omega arith)
+  length-items h n cells l = simp (length-take, length-append, length-drop) (omega arith)
 
   pub no_items : (h n : ℕ) (cells : List X) → n ≡ 0 → items h n cells ≡ []
   unfolding items
@@ -52,25 +51,35 @@ module _ {X : Type 0} where
   unfolding items
   pop_round h n cells d l m r = same_lists _ _ (simp (length-take, length-append, length-drop, length-take) (omega arith)) (λ k e q. grind (arith, places))
 
-  pop_one : (h n : ℕ) (cells : List X) (d : X) → h < length cells → 0 < n → n ≤ length cells → items h n cells ≡ get_or cells h d ∷ items (next h (length cells)) (n - 1) cells
+  pub pop_one : (h n : ℕ) (cells : List X) (d : X) → h < length cells → 0 < n → n ≤ length cells → items h n cells ≡ get_or cells h d ∷ items (next h (length cells)) (n - 1) cells
   pop_one h n cells d l m r =
       cond_both (eqb (h + 1) (length cells)) 0 (h + 1) (λ i. items h n cells ≡ get_or cells h d ∷ items i (n - 1) cells)
       (λ e. pop_round h n cells d (eqb-true (h + 1) (length cells) e) m r)
       (λ e. let z = eqb-false (h + 1) (length cells) e in pop_flat h n cells d (omega arith) m r)
 
-  pub front-entry : (q : Queue) (cells : List X) (d : X) → Sound q cells → 0 < q.count → first (entries q cells) ≡ Some (get_or cells q.head d)
-  front-entry q cells d s m = ap first (pop_one q.head q.count cells d s.0 m s.1)
+  length_rest : (xs : List X) → length (rest xs) ≡ length xs - 1
+  length_rest [] = refl
+  length_rest (x ∷ xs) = omega arith
 
-  pub other_entries : (q : Queue) (cells : List X) → Sound q cells → 0 < q.count →
-      items (next q.head (length cells)) (q.count - 1) cells ≡ rest (entries q cells)
-  other_entries q [] s m = absurd (omega arith)
-  other_entries q (x ∷ cells) s m = sym (ap rest (pop_one q.head q.count (x ∷ cells) x s.0 m s.1))
+  -- a ring that was full has room after a pop
+  pub room : (h n k m : ℕ) (cells : List X) → h < length cells → n ≡ length cells → m ≤ length cells → items k m cells ≡ rest (items h n cells) → m < length cells
+  room h n k m cells l f g e =
+      let a = length-items h n cells (omega arith) in
+      let b = length-items k m cells g in
+      let z = length_rest (items h n cells) in
+      omega (arith, ap length e)
 
-  -- the n oldest entries
-  pub kept : (q : Queue) (cells : List X) (n : ℕ) → n < q.count → items q.head n cells ≡ take n (entries q cells)
-  unfolding items
-  kept q cells n l = sym (take-take n q.count (drop q.head cells ++ take q.head cells) (omega arith))
+  pub over_full : (n : ℕ) (xs : List X) (x : X) → length xs ≡ n → over n xs x ≡ rest xs ++ x ∷ []
+  over_full n xs x e = cond-true _ _ _ (eq-eqb (length xs) n e)
 
-  -- where there is room, a push is one entry more
+  pub over-room : (n : ℕ) (xs : List X) (x : X) → (length xs ≡ n → ⊥) → over n xs x ≡ xs ++ x ∷ []
+  over-room n xs x e = cond-false _ _ _ (ne_eqb (length xs) n e)
+
+  pub push_full : (n : ℕ) (xs : List X) (x : X) → n ≤ length xs → (false ≡ ltb (length xs) n) × (xs ≡ pushed n xs x)
+  push_full n xs x l = let e = le-ltb (length xs) n l in (sym e, sym (cond-false _ _ _ e))
+
   pub push-room : (n : ℕ) (xs : List X) (x : X) → length xs < n → (true ≡ ltb (length xs) n) × (xs ++ x ∷ [] ≡ pushed n xs x)
   push-room n xs x l = let e = lt-ltb (length xs) n l in (sym e, sym (cond-true _ _ _ e))
+
+pub next-below : (h n : ℕ) → h < n → next h n < n
+next-below h n l = cond_both (eqb (h + 1) n) 0 (h + 1) (λ i. i < n) (λ e. omega arith) (λ e. let z = eqb-false (h + 1) n e in omega arith)

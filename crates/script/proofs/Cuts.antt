@@ -1,6 +1,7 @@
 -- What is left after the first bytes of a slice pattern, and the parts that a length cuts off.
-use Rattle.std.proofs.Common.{◌≡◌, ℕ, ◌+◌, ◌-◌, ◌≤◌, true, List, length, take, drop, Some, sym, ap, ◌∙◌, arith, length-drop, take_all, drop-drop, le-leb}
-use Rattle.script.specs.Format.{short_at, part, beyond, kind_of, event_in, first, opens}
+use Rattle.std.proofs.Common.{◌≡◌, ℕ, ◌+◌, ◌-◌, ◌≤◌, true, List, length, take, drop, Some, None, sym, ap, ◌∙◌, arith, length-drop, length-take-le, take_all, drop-drop, eq-eqb, le-leb}
+use borrow.Author.Tests.{apart_eqb}
+use Rattle.script.specs.Format.{short_at, part, beyond, kind_of, body_length, event_of, first, opens}
 use Rattle.script.specs.declared.kind.EventKind.{EventKind}
 
 -- the rest of a slice pattern with n names before it
@@ -21,6 +22,9 @@ module _ (head : ℕ) (bs : List ℕ) (n : ℕ) (is : n ≡ short_at bs 0) where
   pub back_is : (xs : List ℕ) → xs ≡ drop n rest → xs ≡ beyond head bs
   back_is xs e = e ∙ rw (rest-is head bs, drop-drop n head bs, is)
 
+part_length : (head : ℕ) (bs : List ℕ) → head + short_at bs 0 ≤ length bs → length (part head bs) ≡ short_at bs 0
+part_length head bs h = length-take-le (short_at bs 0) (drop head bs) (omega (arith, length-drop head bs))
+
 pub opens_so : (bs : List ℕ) → length bs ≤ 32768 → 2 + short_at bs 0 ≤ length bs → opens bs ≡ true
 opens_so bs l h =
     let a = le-leb (length bs) 32768 l in
@@ -28,8 +32,15 @@ opens_so bs l h =
     rw (a, b)
 
 -- a record that is whole, of a kind that there is
-pub first_of : (bs : List ℕ) (k : EventKind) (body : List ℕ) → 4 + short_at bs 0 ≤ length bs → Some k ≡ kind_of (short_at bs 2) → body ≡ part 4 bs →
-    first bs ≡ event_in (Some k) body
-first_of bs k body h is b =
-    let a = le-leb (4 + short_at bs 0) (length bs) h in
-    rw (a, sym is, b)
+module _ (bs : List ℕ) (k : EventKind) (h : 4 + short_at bs 0 ≤ length bs) (is : Some k ≡ kind_of (short_at bs 2)) where
+  pub first_some : (body : List ℕ) → short_at bs 0 ≡ body_length k → body ≡ part 4 bs → first bs ≡ Some (event_of k body)
+  first_some body e b =
+      let a = le-leb (4 + short_at bs 0) (length bs) h in
+      let l = eq-eqb (length (part 4 bs)) (body_length k) (part_length 4 bs h ∙ e) in
+      rw (a, sym is, l, b)
+
+  pub first-none : (short_at bs 0 ≡ body_length k → ⊥) → first bs ≡ None
+  first-none e =
+      let a = le-leb (4 + short_at bs 0) (length bs) h in
+      let l = apart_eqb (length (part 4 bs)) (body_length k) (λ p. e (sym (part_length 4 bs h) ∙ p)) in
+      rw (a, sym is, l)

@@ -24,7 +24,7 @@ skipped zero bs = refl
 skipped (suc k) [] = refl
 skipped (suc k) (b ∷ bs) = skipped k bs
 
-pub drop_more : (n b : ℕ) (bs : List ℕ) → drop (3 + n) bs ≡ drop (4 + n) (b ∷ bs)
+drop_more : (n b : ℕ) (bs : List ℕ) → drop (3 + n) bs ≡ drop (4 + n) (b ∷ bs)
 drop_more n b bs = let e : suc (3 + n) ≡ 4 + n = omega arith in ap (λ k. drop k (b ∷ bs)) e
 
 -- a record, and those after it

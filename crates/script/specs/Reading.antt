@@ -2,18 +2,12 @@
 use Rattle.std.specs.Prelude.{◌≡◌, ℕ, true, false, List, Some, None, Ok, Err, vec_items, Option, Result, Vec}
 use Rattle.std.specs.declared.alloc.Global.{Global}
 use Rattle.machine.specs.declared.event.Exchange.{Exchange}
-use Rattle.script.specs.Format.{beyond, event_in, first, opens, vector_of, records_of, history_of, saying, said}
+use Rattle.script.specs.Format.{beyond, first, opens, vector_of, records_of, history_of, saying, said}
 use Rattle.script.specs.declared.Script.{Script}
 use Rattle.script.specs.declared.record.Cut.{Cut}
-use Rattle.script.specs.declared.record.Frame.{Frame}
 use Rattle.script.specs.declared.opening.Parts.{Parts}
 use Rattle.script.specs.declared.error.ScriptError.{ScriptError}
 use Rattle.script.specs.declared.error.ScriptError.TheVariants.{Malformed, OutOfMemory}
-
--- a record is cut off as its head says, and the kind and the body say the event
-abbrev pub Frames : List ℕ → Option Frame → Type 0
-Frames bs None = first bs ≡ None
-Frames bs (Some f) = (first bs ≡ event_in (Some f.kind) f.body.now) × (f.rest.now ≡ beyond 4 bs)
 
 -- a record is cut off with its event, and what comes after it is the rest
 abbrev pub Splits : List ℕ → Option Cut → Type 0

@@ -2,7 +2,7 @@
 ghost use Rattle.script.specs.Reading.{Lists};
 
 use crate::error::ScriptError;
-use crate::record::next_event;
+use crate::record::split;
 use machine::answer::Answer;
 use machine::event::Exchange;
 use std::alloc::Global;
@@ -14,7 +14,7 @@ pub(crate) fn read_history(heap: Global, records: &[u8]) -> Result<Vec<Exchange>
     let mut history = Vec::new(heap);
     let mut rest = records;
     while !rest.is_empty() {
-        let Some(cut) = next_event(rest) else {
+        let Some(cut) = split(rest) else {
             return Err(ScriptError::Malformed);
         };
         history.push(Exchange {

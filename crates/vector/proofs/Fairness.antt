@@ -1,17 +1,17 @@
 -- What the core rests on follows from the laws of a taken vector.
-use Rattle.std.proofs.Common.{◌≡◌, ℕ, zero, suc, ◌<◌, ◌≤◌, true, cond, eqb, List, [], ◌∷◌, length, get_or, take, sym, ap, ◌∙◌, subst, ⊎_elim, arith}
+use Rattle.std.proofs.Common.{◌≡◌, ℕ, zero, suc, ◌+◌, ◌<◌, ◌≤◌, Bool, true, false, cond, eqb, List, [], ◌∷◌, length, get_or, take, sym, refl, ap, ◌∙◌, subst, ⊎_elim, arith}
 use Rattle.std.proofs.lemmas.List.{get_or-take, length-take}
 use Rattle.std.proofs.lemmas.Bool.{cases_lt, cond-true, eq-eqb}
 use Rattle.vector.specs.Blank.{port0}
-use Rattle.vector.specs.Fair.{AllWithin, Connected, OneSource, OneDestination, Fair}
+use Rattle.vector.specs.Fair.{Share, AllWithin, Connected, OneSource, OneDestination, Fair}
 use Rattle.vector.specs.Joins.{is_queuing}
+use Rattle.vector.specs.Laws as laws
 use Rattle.vector.specs.Laws.{ports_of, Lawful}
-use Rattle.vector.specs.Rows.{channel_at, port_at}
 use Rattle.vector.specs.Out.{fine}
 use Rattle.vector.specs.Reading.{reading, gathered, takes, tables}
 use Rattle.vector.specs.declared.sofar.Sofar.{Sofar}
 use Rattle.vector.specs.declared.tables.ChannelKind.{ChannelKind}
-use Rattle.vector.specs.declared.tables.ChannelKind.TheVariants.{Queuing}
+use Rattle.vector.specs.declared.tables.ChannelKind.TheVariants.{Sampling, Queuing}
 use Rattle.vector.specs.declared.tables.Direction.{Direction}
 use Rattle.vector.specs.declared.tables.Direction.TheVariants.{Source, Destination}
 use Rattle.vector.specs.declared.tables.Port.{Port}
@@ -29,23 +29,23 @@ module _ (c : ℕ) where
   one : (p : Port) → p.channel ≡ c → ◌≡◌ {A = ℕ} (cond (eqb p.channel c) 1 0) 1
   one p e = cond-true _ _ _ (eq-eqb _ _ e)
 
-  counts-one : (ps : List Port) (i : ℕ) → i < length ps → (get_or ps i port0).channel ≡ c → 1 ≤ ports_of c ps
-  counts-one [] i h e = absurd (omega arith)
-  counts-one (p ∷ ps) zero h e = omega (arith, one p e)
-  counts-one (p ∷ ps) (suc i) h e = let n = counts-one ps i (omega arith) e in omega arith
+  counts_one : (ps : List Port) (i : ℕ) → i < length ps → (get_or ps i port0).channel ≡ c → 1 ≤ ports_of c ps
+  counts_one [] i h e = absurd (omega arith)
+  counts_one (p ∷ ps) zero h e = omega (arith, one p e)
+  counts_one (p ∷ ps) (suc i) h e = let n = counts_one ps i (omega arith) e in omega arith
 
-  counts-two : (ps : List Port) (i j : ℕ) → i < j → j < length ps → (get_or ps i port0).channel ≡ c → (get_or ps j port0).channel ≡ c → 2 ≤ ports_of c ps
-  counts-two [] i j l h e f = absurd (omega arith)
-  counts-two (p ∷ ps) i zero l h e f = absurd (omega arith)
-  counts-two (p ∷ ps) zero (suc j) l h e f = let n = counts-one ps j (omega arith) f in omega (arith, one p e)
-  counts-two (p ∷ ps) (suc i) (suc j) l h e f = let n = counts-two ps i j (omega arith) (omega arith) e f in omega arith
+  counts_two : (ps : List Port) (i j : ℕ) → i < j → j < length ps → (get_or ps i port0).channel ≡ c → (get_or ps j port0).channel ≡ c → 2 ≤ ports_of c ps
+  counts_two [] i j l h e f = absurd (omega arith)
+  counts_two (p ∷ ps) i zero l h e f = absurd (omega arith)
+  counts_two (p ∷ ps) zero (suc j) l h e f = let n = counts_one ps j (omega arith) f in omega (arith, one p e)
+  counts_two (p ∷ ps) (suc i) (suc j) l h e f = let n = counts_two ps i j (omega arith) (omega arith) e f in omega arith
 
   counts_three : (ps : List Port) (i j k : ℕ) → i < j → j < k → k < length ps →
       (get_or ps i port0).channel ≡ c → (get_or ps j port0).channel ≡ c → (get_or ps k port0).channel ≡ c → 3 ≤ ports_of c ps
   counts_three [] i j k l m h e f g = absurd (omega arith)
   counts_three (p ∷ ps) i j zero l m h e f g = absurd (omega arith)
   counts_three (p ∷ ps) i zero (suc k) l m h e f g = absurd (omega arith)
-  counts_three (p ∷ ps) zero (suc j) (suc k) l m h e f g = let n = counts-two ps j k (omega arith) (omega arith) f g in omega (arith, one p e)
+  counts_three (p ∷ ps) zero (suc j) (suc k) l m h e f g = let n = counts_two ps j k (omega arith) (omega arith) f g in omega (arith, one p e)
   counts_three (p ∷ ps) (suc i) (suc j) (suc k) l m h e f g = let n = counts_three ps i j k (omega arith) (omega arith) (omega arith) e f g in omega arith
 
 module _ (t : Tables) (l : Lawful t) (size : t.ports.count ≤ length t.ports.rows) where
@@ -68,26 +68,26 @@ module _ (t : Tables) (l : Lawful t) (size : t.ports.count ≤ length t.ports.ro
       (cases_lt i j)
 
   -- a source stands before every destination of its channel
-  source-before : (i s : ℕ) → i < t.ports.count → s < t.ports.count → (port_at i t).channel ≡ (port_at s t).channel →
-      (port_at i t).direction ≡ Destination → (port_at s t).direction ≡ Source → s < i
+  source-before : (i s : ℕ) → i < t.ports.count → s < t.ports.count → (laws.port_at i t).channel ≡ (laws.port_at s t).channel →
+      (laws.port_at i t).direction ≡ Destination → (laws.port_at s t).direction ≡ Source → s < i
   source-before i s h k e a b =
       ⊎_elim
       (λ (m : s < i). m)
       (λ (m : i ≤ s).
       ⊎_elim
       (λ (n : i < s). absurd (not_both _ b (l.first i s n k e).0))
-      (λ (n : s ≤ i). absurd (let z : i ≡ s = omega arith in not_both _ b (subst (λ n. (port_at n t).direction ≡ Destination) z a)))
+      (λ (n : s ≤ i). absurd (let z : i ≡ s = omega arith in not_both _ b (subst (λ n. (laws.port_at n t).direction ≡ Destination) z a)))
       (cases_lt i s))
       (cases_lt s i)
 
-  counted : (i : ℕ) → i < t.ports.count → (get_or (take t.ports.count t.ports.rows) i port0).channel ≡ (port_at i t).channel
+  counted : (i : ℕ) → i < t.ports.count → (get_or (take t.ports.count t.ports.rows) i port0).channel ≡ (laws.port_at i t).channel
   counted i h = ap (λ (p : Port). p.channel) (get_or-take t.ports.count t.ports.rows i port0 h)
 
   -- of a queuing channel's two ports one is the source
-  not_after : (i j : ℕ) → i < j → j < t.ports.count → (port_at i t).channel ≡ (port_at j t).channel →
-      is_queuing (channel_at (port_at i t).channel t).kind ≡ true → (port_at i t).direction ≡ Destination → ⊥
+  not_after : (i j : ℕ) → i < j → j < t.ports.count → (laws.port_at i t).channel ≡ (laws.port_at j t).channel →
+      is_queuing (laws.channel_at (laws.port_at i t).channel t).kind ≡ true → (laws.port_at i t).direction ≡ Destination → ⊥
   not_after i j m k e q a =
-      let c = (port_at i t).channel in
+      let c = (laws.port_at i t).channel in
       let b = connected i (omega arith) in
       let s = l.sources c b in
       let n = l.counted c b in
@@ -106,23 +106,23 @@ module _ (t : Tables) (l : Lawful t) (size : t.ports.count ≤ length t.ports.ro
       (λ (h : i < j). absurd (not_after i j h s.1 s.2 (queues _ q) a))
       (λ (h : j ≤ i).
       ⊎_elim
-      (λ (m : j < i). absurd (not_after j i m s.0 (sym s.2) (subst (λ c. is_queuing (channel_at c t).kind ≡ true) s.2 (queues _ q)) b))
+      (λ (m : j < i). absurd (not_after j i m s.0 (sym s.2) (subst (λ c. is_queuing (laws.channel_at c t).kind ≡ true) s.2 (queues _ q)) b))
       (λ (m : i ≤ j). omega arith)
       (cases_lt j i))
       (cases_lt i j)
 
-  pub lawful_fair : Fair t
-  lawful_fair = (within, connected, one-source, one-destination)
+  pub lawful-fair : Fair t
+  lawful-fair = (within, connected, one-source, one-destination)
 
-read_fair : (bs : List ℕ) (s : Sofar) → reading bs ≡ fine s → Fair s.tables
-read_fair bs s e =
+read-fair : (bs : List ℕ) (s : Sofar) → reading bs ≡ fine s → Fair s.tables
+read-fair bs s e =
     let w = (taken-keeps Fit fit-kept fit-nothing bs s e).0.1.wires in
-    lawful_fair s.tables (read-lawful bs s e).1 (omega (arith, w.size, w.few))
+    lawful-fair s.tables (read-lawful bs s e).1 (omega (arith, w.size, w.few))
 
-pub gathered_fair : (bs : List ℕ) (t : Tables) → gathered bs ≡ fine t → Fair t
-gathered_fair bs t e =
+pub gathered-fair : (bs : List ℕ) (t : Tables) → gathered bs ≡ fine t → Fair t
+gathered-fair bs t e =
     let s = then-fine (reading bs) (λ s. fine s.tables) t e in
-    same-fine Fair s.0.tables t s.2 (read_fair bs s.0 s.1)
+    same-fine Fair s.0.tables t s.2 (read-fair bs s.0 s.1)
 
-pub takes_fair : (bs : List ℕ) → takes bs ≡ true → Fair (tables bs)
-takes_fair bs e = let o = taken-read bs e in subst Fair o.1.1 (read_fair bs o.0 o.1.0)
+pub takes-fair : (bs : List ℕ) → takes bs ≡ true → Fair (tables bs)
+takes-fair bs e = let o = taken-read bs e in subst Fair o.1.1 (read-fair bs o.0 o.1.0)

@@ -3,9 +3,9 @@ use Rattle.std.proofs.Common.{◌≡◌, ℕ, ◌+◌, ◌-◌, ◌<◌, ◌≤�
 use Rattle.std.proofs.lemmas.List.{length-set}
 use Rattle.std.proofs.lemmas.Bool.{cases_eq, ne_eqb, cond-false}
 use Rattle.vector.specs.Blank.{slot0, plan0}
-use Rattle.vector.specs.Laws.{SlotInPlace}
+use Rattle.vector.specs.Laws.{slot_at, SlotInPlace}
 use Rattle.vector.specs.Ranges.{In}
-use Rattle.vector.specs.Rows.{slot_at, plan_with, placed, end_of, slot_end}
+use Rattle.vector.specs.Rows.{plan_with, placed, end_of, slot_end}
 use Rattle.vector.specs.declared.tables.Plan.{Plan}
 use Rattle.vector.specs.declared.tables.Plans.{Plans}
 use Rattle.vector.specs.declared.tables.Slot.{Slot}

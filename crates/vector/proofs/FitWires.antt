@@ -6,9 +6,9 @@ use Rattle.vector.specs.Blank.{channel0, port0}
 use Rattle.vector.specs.Sound.{SoundChannel}
 use Rattle.vector.specs.Bodies.{next_direction}
 use Rattle.vector.specs.Joins.{is_queuing, is_full}
-use Rattle.vector.specs.Laws.{ports_of}
+use Rattle.vector.specs.Laws.{channel_at, port_at, ports_of}
 use Rattle.vector.specs.Names.{same_name, clash, clashes}
-use Rattle.vector.specs.Rows.{channel_at, port_at, open_channel, ported, add_channel, add_port}
+use Rattle.vector.specs.Rows.{open_channel, ported, add_channel, add_port}
 use Rattle.vector.specs.declared.tables.Channel.{Channel}
 use Rattle.vector.specs.declared.tables.Channels.{Channels}
 use Rattle.vector.specs.declared.tables.Direction.TheVariants.{Source, Destination}

@@ -48,9 +48,9 @@ pub record Fit (s : Sofar) : Type 0 where
   pub wires : FitWires s.partitions s.tables.channels s.tables.ports
   pub lines : (i : ℕ) → Owner s.partitions (get_or s.tables.lines i None)
 
-deepest-most : (k : ChannelKind) → deepest k ≤ 8
-deepest-most Sampling = omega arith
-deepest-most Queuing = omega arith
+deepest_most : (k : ChannelKind) → deepest k ≤ 8
+deepest_most Sampling = omega arith
+deepest_most Queuing = omega arith
 
 -- a record that is not the header comes after one
 later-some : (k : Kind) (l : Option Kind) → leads k ≡ false → follows k l ≡ true → is_some l ≡ true
@@ -104,7 +104,7 @@ module _ (s : Sofar) where
       let w = f.wires in
       record {
         some = λ _. x;
-        partitions = record { size = f.partitions.size; differ = f.partitions.differ; sized = f.partitions.sized; links = λ p i m e. absurd (let o = (f.partitions.links p i m e).0 in omega arith) };
+        partitions = record { size = f.partitions.size; differ = f.partitions.differ; links = λ p i m e. absurd (let o = (f.partitions.links p i m e).0 in omega arith) };
         plans = record { size = f.plans.size; each = λ i h. absurd (let o = r.1.1 in omega arith) };
         begun = λ i h. absurd (let o = r.1.1 in omega arith);
         wires = record { rows = w.rows; size = w.size; few = w.few; sound = w.sound; paired = w.paired; queues = w.queues; counted = w.counted; belong = λ i h. absurd (let o = (w.belong i h).0 in omega arith); first = w.first; names = w.names; sources = w.sources };
@@ -119,7 +119,7 @@ fit-kept s k (partition c z n) r i x j f =
     let a : s.tables.partitions.count < s.partitions = ltb-true _ _ w.1 in
     record {
       some = still s Partition Partition refl w.0 f;
-      partitions = fit-partition s.partitions s.tables.partitions (row_of c z (padded n.bytes)) f.partitions (omega (arith, r.0.0.0)) j refl x.1.0;
+      partitions = fit-partition s.partitions s.tables.partitions (row_of c z (padded n.bytes)) f.partitions (omega (arith, r.0.0.0)) j refl;
       plans = f.plans;
       begun = not-after-plan Partition s.last _ s.tables.plans refl w.0 f.begun;
       wires = f.wires;
@@ -157,7 +157,7 @@ fit-kept s k (channel c l d) r i x j f =
       partitions = f.partitions;
       plans = f.plans;
       begun = not-after-plan Channel s.last _ s.tables.plans refl w.0 f.begun;
-      wires = fit-channel s.partitions s.tables (channel_with c l d) f.wires j (x.1.0.0, x.1.0.1, x.1.1.0, omega (arith, deepest-most c)) refl two;
+      wires = fit-channel s.partitions s.tables (channel_with c l d) f.wires j (x.1.0.0, x.1.0.1, x.1.1.0, omega (arith, deepest_most c)) refl two;
       lines = f.lines;
     }
 fit-kept s k (port p d n) r i x j f =
@@ -217,7 +217,6 @@ fit-nothing = record {
   partitions = record {
     size = refl;
     differ = λ i j l h. absurd (omega arith);
-    sized = λ i h. absurd (omega arith);
     links = λ p i m. all_alike (λ (r : PartitionRow). get_or r.links i None ≡ Some m → (p < 0) × Mask 0 p m) 8 p (row_of Standard 0 no_name) row0
         (all_alike (λ (o : Option ℕ). o ≡ Some m → (p < 0) × Mask 0 p m) 8 i None None (no_link p m) (no_link p m)) (no_link p m);
   };

@@ -1,12 +1,12 @@
 -- What every vector that is taken says.
-use Rattle.std.proofs.Common.{◌≡◌, ℕ, ◌+◌, ◌-◌, ◌/◌, ◌%◌, ◌^◌, ◌<◌, ◌≤◌, true, false, ◌&&◌, eqb, List, is_some, Some, None, Option, sym, refl, ap, subst, inl, inr, arith}
+use Rattle.std.proofs.Common.{◌≡◌, ℕ, ◌+◌, ◌-◌, ◌*◌, ◌/◌, ◌%◌, ◌^◌, ◌<◌, ◌≤◌, true, false, ◌&&◌, eqb, ◌⊎◌, List, is_some, Some, None, Option, sym, refl, ap, subst, inl, inr, arith}
 use Rattle.std.proofs.lemmas.Nat.{pow_pos, pow_below, div_below}
 use Rattle.std.proofs.lemmas.Bool.{and_parts, eqb-true, false≢true, cases_lt, cases_eq, both_ways}
 use Rattle.vector.specs.Out.{Out, fine, bad, then}
 use Rattle.vector.specs.Fields.{has_bit}
-use Rattle.vector.specs.Laws.{SlotInPlace, Lawful}
+use Rattle.vector.specs.Laws.{channel_at, plan_at, SlotInPlace, Lawful}
 use Rattle.vector.specs.Ranges.{Mask}
-use Rattle.vector.specs.Rows.{plan_at, channel_at, blank}
+use Rattle.vector.specs.Rows.{blank}
 use Rattle.vector.specs.Sound.{SoundPlan, Sound}
 use Rattle.vector.specs.Turns.{ends, has_partitions, has_plans, has_ports, settled}
 use Rattle.vector.specs.Rooms.{Room}
@@ -85,7 +85,6 @@ module _ (s : Sofar) (r : Room s) (f : Fit s) (e : settled s ≡ true) where
       let w = f.wires in
       record {
         names = f.partitions.differ;
-        areas = f.partitions.sized;
         slots = λ i h. (has_slot i h, λ j k. subst (λ n. SlotInPlace n (plan_at i s.tables) j) n ((f.plans.each i h).each j k));
         belong = λ i h. let b = w.belong i h in (omega arith, b.1);
         first = w.first;

@@ -1,27 +1,35 @@
 -- What is true of the tables of every vector that is taken.
-use Rattle.std.specs.Prelude.{◌≡◌, ℕ, ◌+◌, ◌<◌, ◌≤◌, true, cond, List, [], ◌∷◌, ◌++◌, take, Some, None, Ok, Err, Result, ◌==◌, ◌≢◌, slice_index_or}
+use Rattle.std.specs.Prelude.{◌≡◌, ℕ, ◌+◌, ◌<◌, ◌≤◌, true, cond, List, [], ◌∷◌, ◌++◌, take, Some, None, ◌==◌, ◌≢◌, slice_index_or}
+use Rattle.vector.specs.Blank.{slot0, plan0, channel0, port0}
 use Rattle.vector.specs.Encoding.{Bytes, bytes_of}
 use Rattle.vector.specs.Fields.{has_bit}
 use Rattle.vector.specs.Out.{fine}
 use Rattle.vector.specs.Points.{Point, Step, step}
-use Rattle.vector.specs.Ranges.{In}
-use Rattle.vector.specs.Rows.{partition_at, plan_at, slot_at, channel_at, port_at, slot_end}
+use Rattle.vector.specs.Rows.{partition_at, slot_end}
 use Rattle.vector.specs.Joins.{is_queuing}
-use Rattle.vector.specs.Sound.{Sound}
-use Rattle.vector.specs.Fair.{Fair}
-use Rattle.vector.specs.declared.fault.Refusal.{Refusal}
+use Rattle.vector.specs.Reading.{takes, tables}
+use Rattle.vector.specs.declared.tables.Channel.{Channel}
 use Rattle.vector.specs.declared.tables.Direction.TheVariants.{Source, Destination}
 use Rattle.vector.specs.declared.tables.Plan.{Plan}
 use Rattle.vector.specs.declared.tables.Port.{Port}
+use Rattle.vector.specs.declared.tables.Slot.{Slot}
 use Rattle.vector.specs.declared.tables.Tables.{Tables}
+
+abbrev pub plan_at : ℕ → Tables → Plan
+plan_at i t = slice_index_or t.plans.rows i plan0
+
+abbrev pub slot_at : ℕ → Plan → Slot
+slot_at j p = slice_index_or p.slots j slot0
+
+abbrev pub channel_at : ℕ → Tables → Channel
+channel_at c t = slice_index_or t.channels.rows c channel0
+
+abbrev pub port_at : ℕ → Tables → Port
+port_at i t = slice_index_or t.ports.rows i port0
 
 -- no two partitions have one name
 abbrev pub NamesDiffer : Tables → Type 0
 NamesDiffer t = (i j : ℕ) → i < j → j < t.partitions.count → (partition_at i t).name ≢ (partition_at j t).name
-
--- each partition's area has 1 to 1,024 bytes
-abbrev pub AreasSized : Tables → Type 0
-AreasSized t = (i : ℕ) → i < t.partitions.count → In 1 1024 (partition_at i t).size
 
 -- slot j of a plan is of one of n partitions, takes some time, begins at or after the end of each slot before it, and
 -- ends within the frame
@@ -76,7 +84,6 @@ LinesOwned t = (l p : ℕ) → slice_index_or t.lines l None ≡ Some p → p < 
 
 pub record Lawful (t : Tables) : Type 0 where
   pub names : NamesDiffer t
-  pub areas : AreasSized t
   pub slots : SlotsInPlace t
   pub belong : PortsBelong t
   pub first : SourceFirst t
@@ -85,11 +92,6 @@ pub record Lawful (t : Tables) : Type 0 where
   pub ports : PortNamesDiffer t
   pub links : LinksToOthers t
   pub lines : LinesOwned t
-
--- what is kept by tables that were gathered
-abbrev pub Kept : Result Tables Refusal → Type 0
-Kept (Ok t) = Sound t × Lawful t × Fair t
-Kept (Err e) = Unit {0}
 
 -- what the reader shows of a record gives back its bytes
 abbrev pub RecordsWritten : Type 0

@@ -1,6 +1,6 @@
 -- The tables before any record, and with one more row.
 use Rattle.std.specs.Prelude.{ℕ, ◌+◌, ◌-◌, cond, List, replicate, Some, None, Option, ◌==◌, slice_index_or, slice_set}
-use Rattle.vector.specs.Blank.{row0, slot0, plan0, channel0, port0, defaults, system_defaults}
+use Rattle.vector.specs.Blank.{row0, slot0, plan0, channel0, defaults, system_defaults}
 use Rattle.vector.specs.declared.tables.ChannelKind.{ChannelKind}
 use Rattle.vector.specs.declared.tables.ChannelKind.TheVariants.{Sampling}
 use Rattle.vector.specs.declared.tables.Class.{Class}
@@ -50,23 +50,6 @@ blank = record {
   system = system_defaults;
 }
 
--- a row by its number
-
-abbrev pub partition_at : ℕ → Tables → PartitionRow
-partition_at p t = slice_index_or t.partitions.rows p row0
-
-abbrev pub plan_at : ℕ → Tables → Plan
-plan_at i t = slice_index_or t.plans.rows i plan0
-
-abbrev pub slot_at : ℕ → Plan → Slot
-slot_at j p = slice_index_or p.slots j slot0
-
-abbrev pub channel_at : ℕ → Tables → Channel
-channel_at c t = slice_index_or t.channels.rows c channel0
-
-abbrev pub port_at : ℕ → Tables → Port
-port_at i t = slice_index_or t.ports.rows i port0
-
 -- one table replaced
 
 abbrev pub with_partitions : Partitions → Tables → Tables
@@ -97,7 +80,7 @@ add_plan f t = with_plans (record { count = t.plans.count + 1; rows = slice_set 
 
 -- the plan that was added last
 abbrev pub open_plan : Tables → Plan
-open_plan t = plan_at (t.plans.count - 1) t
+open_plan t = slice_index_or t.plans.rows (t.plans.count - 1) plan0
 
 -- one slot more in a plan
 abbrev pub placed : Slot → Plan → Plan
@@ -113,7 +96,7 @@ slot_end x = x.start + x.duration
 
 -- where the last slot of a plan ends; 0 while there is none
 abbrev pub end_of : Plan → ℕ
-end_of p = cond (p.count == 0) 0 (slot_end (slot_at (p.count - 1) p))
+end_of p = cond (p.count == 0) 0 (slot_end (slice_index_or p.slots (p.count - 1) slot0))
 
 -- one channel more
 abbrev pub add_channel : Channel → Tables → Tables
@@ -121,7 +104,7 @@ add_channel x t = with_channels (record { count = t.channels.count + 1; rows = s
 
 -- the channel that was added last
 abbrev pub open_channel : Tables → Channel
-open_channel t = channel_at (t.channels.count - 1) t
+open_channel t = slice_index_or t.channels.rows (t.channels.count - 1) channel0
 
 -- one port more in a channel
 abbrev pub ported : Channel → Channel
@@ -132,6 +115,10 @@ abbrev pub add_port : Port → Tables → Tables
 add_port x t =
     with_ports (record { count = t.ports.count + 1; rows = slice_set t.ports.rows t.ports.count x })
     (with_channels (record { count = t.channels.count; rows = slice_set t.channels.rows (t.channels.count - 1) (ported (open_channel t)) }) t)
+
+-- partition p as it stands in its table
+abbrev pub partition_at : ℕ → Tables → PartitionRow
+partition_at p t = slice_index_or t.partitions.rows p row0
 
 -- partition p replaced
 abbrev pub set_partition : ℕ → PartitionRow → Tables → Tables

@@ -1,7 +1,6 @@
 //! The reader of configuration vectors.
 ghost use Rattle.std.specs.Prelude.{◌≡◌};
 ghost use Rattle.vector.specs.Config.{TakenIsValid};
-ghost use Rattle.vector.specs.Laws.{RecordsWritten};
 ghost use Rattle.vector.specs.Out.{out};
 ghost use Rattle.vector.specs.Reasons.{reason};
 ghost use Rattle.vector.specs.Reading.{verdict, verdict_of, gathered};
@@ -11,7 +10,6 @@ use crate::fault::Refusal;
 use crate::scan::gather;
 use crate::tables::Tables;
 
-pub(crate) mod blank;
 pub(crate) mod bodies;
 pub mod checked;
 pub mod export;
@@ -24,7 +22,6 @@ pub mod reader;
 pub mod record;
 pub mod records;
 pub mod refusal;
-pub(crate) mod relations;
 pub(crate) mod rows;
 pub(crate) mod scan;
 pub(crate) mod sofar;
@@ -32,11 +29,9 @@ pub mod tables;
 pub(crate) mod turn;
 
 /// Whether the bytes are a vector that is taken: it is if and only if it is the vector of a valid configuration.
-/// What the reader shows of a record gives back the record's bytes.
 pub fn check(bytes: &[u8]) -> Result<(), Refusal>
     ensures answer { verdict_of (out reason (λ u. u) result) ≡ verdict bytes.now }
     ensures exact { TakenIsValid }
-    ensures written { RecordsWritten }
 {
     let _ = gather(bytes)?;
     Ok(())

@@ -1,5 +1,6 @@
 // A vector, record by record.
 ghost use Rattle.std.specs.Prelude.{◌≡◌};
+ghost use Rattle.vector.specs.Laws.{RecordsWritten};
 ghost use Rattle.vector.specs.Out.{out};
 ghost use Rattle.vector.specs.Points.{point_of, shown_of, next, shown, moved};
 ghost use Rattle.vector.specs.Reasons.{reason};
@@ -11,9 +12,10 @@ use crate::reader::{Records, Shown};
 use crate::sofar::Sofar;
 
 impl<'a> Records<'a> {
-    /// The records of a vector, none read yet.
+    /// The records of a vector, none read yet; what is shown of each gives back its bytes.
     pub fn of(bytes: &'a [u8]) -> Records<'a>
-        ensures { point_of result ≡ record { at = 0; sofar = nothing; rest = bytes.now } }
+        ensures start { point_of result ≡ record { at = 0; sofar = nothing; rest = bytes.now } }
+        ensures written { RecordsWritten }
     {
         Records {
             at: 0,

@@ -1,7 +1,5 @@
 // The tables that the records of a vector give.
 ghost use Rattle.std.specs.Prelude.{◌≡◌};
-ghost use Rattle.vector.specs.Config.{TakenIsValid};
-ghost use Rattle.vector.specs.Laws.{Kept, RecordsWritten};
 ghost use Rattle.vector.specs.Out.{out};
 ghost use Rattle.vector.specs.Reading.{gathered};
 ghost use Rattle.vector.specs.Reasons.{reason};
@@ -10,12 +8,9 @@ use crate::fault::Refusal;
 use crate::reader::Records;
 use crate::tables::Tables;
 
-/// The tables and what is true of them, or the first refusal.
+/// The tables, or the first refusal.
 pub(crate) fn gather(bytes: &[u8]) -> Result<Tables, Refusal>
-    ensures is { out reason (λ t. t) result ≡ gathered bytes.now }
-    ensures kept { Kept result }
-    ensures exact { TakenIsValid }
-    ensures written { RecordsWritten }
+    ensures { out reason (λ t. t) result ≡ gathered bytes.now }
 {
     let mut records = Records::of(bytes);
     while let Some(_) = records.next_record()? {}

@@ -2,22 +2,13 @@ use Rattle.std.proofs.Common.{sym, ap, ◌∙◌}
 use Rattle.std.proofs.lemmas.Result.{err_from_is_err_and}
 use Rattle.vector.specs.Out.{fine}
 use Rattle.vector.specs.Points.{point_of, shown_of}
-use Rattle.vector.proofs.Fairness.{gathered_fair}
-use Rattle.vector.proofs.Laws.{gathered-sound, gathered-lawful}
-use Rattle.vector.proofs.Reached.{taken_is_valid}
 use Rattle.vector.proofs.Scans.{goes_on, stops, fails, gathered-bad, gathered-fine}
-use Rattle.vector.proofs.Written.{records_written}
 use Rattle.vector.proofs.scan.gather.Goals as goal
 
 pub returns-in-err-next-record : goal.returns-in-err-next-record
 returns-in-err-next-record c =
     let p = err_from_is_err_and c.from-residual.result c.from-residual.ensures.1 in
-    record {
-      is = rw (p.1, p.2) (gathered-bad c.args.bytes.now _ (sym c.loop.invariant ∙ fails (point_of c.loop.records) _ c.in-err-next-record.ensures.answer));
-      kept = rw p.1 tt;
-      exact = taken_is_valid;
-      written = records_written;
-    }
+    rw (p.1, p.2) (gathered-bad c.args.bytes.now _ (sym c.loop.invariant ∙ fails (point_of c.loop.records) _ c.in-err-next-record.ensures.answer))
 
 pub loop-smaller : goal.loop-smaller
 loop-smaller c =
@@ -31,7 +22,5 @@ loop-preserved c =
 
 pub returns : goal.returns
 returns c =
-    let bs = c.args.bytes.now in
     let e = c.in-ok-next-record.ensures in
-    let is = gathered-fine bs _ (sym c.loop.invariant ∙ stops (point_of c.loop.records) (point_of c.next-record.new.self) (ap (λ o. fine (shown_of o)) (sym c.in-default.is) ∙ e.answer) e.after) in
-    record { is = is; kept = (gathered-sound bs _ (sym is), gathered-lawful bs _ (sym is), gathered_fair bs _ (sym is)); exact = taken_is_valid; written = records_written }
+    gathered-fine c.args.bytes.now _ (sym c.loop.invariant ∙ stops (point_of c.loop.records) (point_of c.next-record.new.self) (ap (λ o. fine (shown_of o)) (sym c.in-default.is) ∙ e.answer) e.after)

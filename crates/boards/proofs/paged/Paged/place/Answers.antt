@@ -1,6 +1,27 @@
 use Rattle.std.proofs.Common.{arith}
-use Rattle.boards.proofs.Paging.{byte_at}
+use Rattle.boards.proofs.Paging.{fitting, place_found}
 use Rattle.boards.proofs.paged.Paged.place.Goals as goal
 
+pub offset-bounds-self-i : goal.offset-bounds-self-i
+offset-bounds-self-i g c =
+    let b = c.args.self.now in
+    let f = fitting b.table b.sizes g.row.N b.eight b.sound c.args.i c.args.at (omega arith) in
+    omega arith
+
+pub bounds-self-i : goal.bounds-self-i
+bounds-self-i g c =
+    let b = c.args.self.now in
+    let f = fitting b.table b.sizes g.row.N b.eight b.sound c.args.i c.args.at (omega arith) in
+    omega arith
+
+pub bounds-self-at : goal.bounds-self-at
+bounds-self-at g c =
+    let b = c.args.self.now in
+    let f = fitting b.table b.sizes g.row.N b.eight b.sound c.args.i c.args.at (omega arith) in
+    omega arith
+
 pub returns-then-at-size-of : goal.returns-then-at-size-of
-returns-then-at-size-of g c = byte_at c.args.self.now _ _ (omega arith)
+returns-then-at-size-of g c =
+    let b = c.args.self.now in
+    let w = place_found b.table b.sizes g.row.N b.eight b.sound c.args.i c.args.at (omega arith) in
+    record { is = w.0; inside = w.1 }

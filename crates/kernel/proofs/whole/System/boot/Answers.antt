@@ -1,4 +1,4 @@
-use Rattle.kernel.proofs.Grounding.{planned, framed, slotted, owned, bounded, started, lined}
+use Rattle.kernel.proofs.Grounding.{planned, framed, slotted, owned, bounded, started}
 use Rattle.kernel.proofs.whole.System.boot.Goals as goal
 
 pub invariant-of-result : goal.invariant-of-result
@@ -28,7 +28,7 @@ invariant-of-result g c =
                         (
                           bounded t s f,
                           (
-                            lined t s,
+                            s.5,
                             (
                               started t s,
                               tt,

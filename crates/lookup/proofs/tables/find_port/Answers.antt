@@ -1,0 +1,22 @@
+use Rattle.std.proofs.Common.{◌≡◌, ℕ, Bool, cond, Some, Option, refl, ap, ◌∙◌, ap₂, add-one, arith}
+use Rattle.machine.specs.Questions.{named}
+use Rattle.lookup.proofs.Finding.{picked}
+use Rattle.lookup.proofs.tables.find_port.Goals as goal
+
+pub loop-i-init : goal.loop-i-init
+unfolding named
+loop-i-init c = (refl, tt)
+
+pub loop-i-preserved : goal.loop-i-preserved
+unfolding named
+loop-i-preserved c = (
+  rw add-one (c.pick-found.ensures ∙ ap₂ (λ (b : Bool) (o : Option ℕ). cond b (Some c.loop-i.i) o) c.is-port.ensures c.loop-i.invariant.0),
+  picked c.args.tables.now.ports.count c.loop-i.i c.is-port.result c.loop-i.found c.pick-found.result c.pick-found.ensures c.loop-i-test.true c.loop-i.invariant.1,
+)
+
+pub returns : goal.returns
+returns c =
+    record {
+      is = c.loop-i.invariant.0 ∙ ap (named c.args.tables.now c.args.q c.args.kind c.args.name.now) (omega arith);
+      there = c.loop-i.invariant.1;
+    }
