@@ -1,14 +1,10 @@
 -- Names as the code goes over them, byte by byte and row by row.
 use Rattle.std.proofs.Common.{◌≡◌, ℕ, ◌+◌, ◌<◌, ◌≤◌, Bool, false, ◌||◌, List, [], ◌∷◌, ◌++◌, length, get_or, take, drop, set, replicate, Decides, ap, add-one, arith, drop-cons}
-use Rattle.std.specs.Cmp.Lexicographic.{Matches}
 use Rattle.std.specs.Str.{bytes_eq}
 use Rattle.std.proofs.lemmas.Slice.Eq.{slice_eq-Decides, bytes_eq-Decides}
 use Rattle.std.proofs.lemmas.List.{drop_all, take_more, drop_more, set_at, append_assoc, length-take-le, length-replicate, take_all}
 use Rattle.std.proofs.lemmas.Bool.Decides.{same_from_decides, Decides-eqb}
 use Rattle.vector.specs.Names.{any}
-
-pub same : (xs ys : List ℕ) (r : Bool) → Matches (λ (a b : ℕ) (t : Bool). Decides t (a ≡ b)) xs ys r → r ≡ bytes_eq xs ys
-same xs ys r h = same_from_decides r (bytes_eq xs ys) (slice_eq-Decides Decides-eqb xs ys r h) (bytes_eq-Decides xs ys)
 
 -- the first i bytes of a name, and zeros behind them
 abbrev pub partly : List ℕ → ℕ → List ℕ

@@ -2,8 +2,8 @@ use Rattle.std.proofs.Common.{rules}
 use Rattle.vector.proofs.Reached.{taken_is_valid}
 use Rattle.vector.proofs.check.Goals as goal
 
-pub returns-in-err-gather : goal.returns-in-err-gather
-returns-in-err-gather c = record { answer = search rules; exact = taken_is_valid }
+pub returns-in_err-gather : goal.returns-in_err-gather
+returns-in_err-gather c = record { answer = search rules; exact = taken_is_valid }
 
 pub returns : goal.returns
 returns c = record { answer = search rules; exact = taken_is_valid }

@@ -8,12 +8,12 @@ returns c =
     let n = c.word-length.result in
     let w = c.word-length.ensures in
     let v = c.word.ensures in
-    let k = c.in-ok-kind.ensures in
-    let s = c.if-not-takes-body.ensures in
-    let f = c.split-at.ensures.front in
-    let b = c.split-at.ensures.back in
+    let k = c.in_ok-kind.ensures in
+    let s = c.if-not-takes_body.ensures in
+    let f = c.split_at.ensures.front in
+    let b = c.split_at.ensures.back in
     let all = after 4 bs in
     let more = drop-drop n 4 bs in
     let h : 4 ≤ length bs = search rules in
-    let told = framed-fine c.args.at bs c.in-ok-kind.kind h (omega (arith, ap length all, length-drop 4 bs)) (cc) (cc) in
+    let told = framed-fine c.args.at bs c.in_ok-kind.kind h (omega (arith, ap length all, length-drop 4 bs)) (cc) (cc) in
     cc

@@ -5,22 +5,22 @@ use Rattle.vector.specs.Points.{point_of, shown_of}
 use Rattle.vector.proofs.Scans.{goes_on, stops, fails, gathered-bad, gathered-fine}
 use Rattle.vector.proofs.scan.gather.Goals as goal
 
-pub returns-in-err-next-record : goal.returns-in-err-next-record
-returns-in-err-next-record c =
-    let p = err_from_is_err_and c.from-residual.result c.from-residual.ensures.1 in
-    rw (p.1, p.2) (gathered-bad c.args.bytes.now _ (sym c.loop.invariant ∙ fails (point_of c.loop.records) _ c.in-err-next-record.ensures.answer))
+pub returns-in_err-next_record : goal.returns-in_err-next_record
+returns-in_err-next_record c =
+    let p = err_from_is_err_and c.from_residual.result c.from_residual.ensures.1 in
+    rw (p.1, p.2) (gathered-bad c.args.bytes.now _ (sym c.loop.invariant ∙ fails (point_of c.loop.records) _ c.in_err-next_record.ensures.answer))
 
 pub loop-smaller : goal.loop-smaller
 loop-smaller c =
-    let e = c.in-ok-next-record.ensures in
-    (goes_on (point_of c.loop.records) (point_of c.next-record.new.self) _ (ap (λ o. fine (shown_of o)) (sym c.in-Some.is) ∙ e.answer) e.after).1
+    let e = c.in_ok-next_record.ensures in
+    (goes_on (point_of c.loop.records) (point_of c.next_record.new.self) _ (ap (λ o. fine (shown_of o)) (sym c.in-Some.is) ∙ e.answer) e.after).1
 
 pub loop-preserved : goal.loop-preserved
 loop-preserved c =
-    let e = c.in-ok-next-record.ensures in
-    (goes_on (point_of c.loop.records) (point_of c.next-record.new.self) _ (ap (λ o. fine (shown_of o)) (sym c.in-Some.is) ∙ e.answer) e.after).0 ∙ c.loop.invariant
+    let e = c.in_ok-next_record.ensures in
+    (goes_on (point_of c.loop.records) (point_of c.next_record.new.self) _ (ap (λ o. fine (shown_of o)) (sym c.in-Some.is) ∙ e.answer) e.after).0 ∙ c.loop.invariant
 
 pub returns : goal.returns
 returns c =
-    let e = c.in-ok-next-record.ensures in
-    gathered-fine c.args.bytes.now _ (sym c.loop.invariant ∙ stops (point_of c.loop.records) (point_of c.next-record.new.self) (ap (λ o. fine (shown_of o)) (sym c.in-default.is) ∙ e.answer) e.after)
+    let e = c.in_ok-next_record.ensures in
+    gathered-fine c.args.bytes.now _ (sym c.loop.invariant ∙ stops (point_of c.loop.records) (point_of c.next_record.new.self) (ap (λ o. fine (shown_of o)) (sym c.in_default.is) ∙ e.answer) e.after)

@@ -2,8 +2,8 @@ use Rattle.std.proofs.Common.{arith}
 use Rattle.boards.proofs.Fencing.{place_found}
 use Rattle.boards.proofs.fenced.Fenced.place.Goals as goal
 
-pub overflow-add-result : goal.overflow-add-result
-overflow-add-result g c =
+pub overflow_add-result : goal.overflow_add-result
+overflow_add-result g c =
     let b = c.args.self.now in
     let w = place_found b.fences g.row.N b.eight b.sound c.args.i c.args.at c.fence-fence.result c.fence-fence.ensures c.if-at-fence.true in
     omega arith

@@ -3,9 +3,9 @@ use Rattle.boards.specs.Pages.{paged}
 use Rattle.boards.proofs.Paging.{empty-sound}
 use Rattle.boards.proofs.paged.Paged.new.Goals as goal
 
-pub invariant-of-result : goal.invariant-of-result
-invariant-of-result g c = search (rules, empty-sound c.args.table g.row.N)
+pub invariant_of-result : goal.invariant_of-result
+invariant_of-result g c = search (rules, empty-sound c.args.table g.row.N)
 
-pub returns-then-not-are-sound : goal.returns-then-not-are-sound
+pub returns-then-not-are_sound : goal.returns-then-not-are_sound
 unfolding paged
-returns-then-not-are-sound g c = search rules
+returns-then-not-are_sound g c = search rules

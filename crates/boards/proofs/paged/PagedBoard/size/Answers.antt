@@ -5,4 +5,4 @@ use Rattle.boards.proofs.paged.PagedBoard.size.Goals as goal
 pub returns : goal.returns
 returns g c =
     let b = c.args.self.now in
-    c.size-of.ensures ∙ sym ((pages_laid b.table b.sizes g.row.N b.eight b.sound).long b.memory b.whole c.args.i)
+    c.size_of.ensures ∙ sym ((pages_laid b.table b.sizes g.row.N b.eight b.sound).long b.memory b.whole c.args.i)
