@@ -8,7 +8,7 @@ use vector::tables::Tables;
 
 /// Fills an area with zeros.
 pub(crate) fn wipe<B: Board>(board: &mut B, i: usize)
-    ensures { areas board.new ≡ wiped i (areas board.old) }
+    ensures { B.areas board.new ≡ wiped i (B.areas board.old) }
 {
     for at in 0..board.size(i) {
         let _ = board.store(i, at, 0);
@@ -17,7 +17,7 @@ pub(crate) fn wipe<B: Board>(board: &mut B, i: usize)
 
 /// Fills the first n areas with zeros.
 pub(crate) fn wipe_all<B: Board>(board: &mut B, n: usize)
-    ensures { areas board.new ≡ wiped_all n (areas board.old) }
+    ensures { B.areas board.new ≡ wiped_all n (B.areas board.old) }
 {
     for i in 0..n {
         wipe(board, i);
@@ -27,7 +27,7 @@ pub(crate) fn wipe_all<B: Board>(board: &mut B, n: usize)
 /// Whether each partition's area has the size that the vector gives.
 pub(crate) fn is_fitting<B: Board>(tables: &Tables, board: &B) -> bool
     requires { tables.now.partitions.count ≤ 8 }
-    ensures { result ≡ fits tables.now (areas board.now) }
+    ensures { result ≡ fits tables.now (B.areas board.now) }
 {
     let mut fitting = true;
     for i in 0..tables.partitions.count {

@@ -12,7 +12,7 @@ use vector::tables::Name;
 
 /// Whether a range lies in the area; the sum of two 32-bit numbers is taken as it is.
 pub(crate) fn is_ranged<B: Board>(board: &B, i: usize, at: u32, n: u32) -> bool
-    ensures { result ≡ ranged (area (areas board.now) i) at n }
+    ensures { result ≡ ranged (area (B.areas board.now) i) at n }
 {
     u64::from(at) + u64::from(n) <= board.size(i) as u64
 }
@@ -20,8 +20,8 @@ pub(crate) fn is_ranged<B: Board>(board: &B, i: usize, at: u32, n: u32) -> bool
 /// Fills a buffer from an area.
 fn load_into<B: Board>(board: &B, i: usize, at: usize, into: &mut [u8])
     requires fits { at + length into.old < 2 ^ 64 }
-    requires inside { at + length into.old ≤ length (area (areas board.now) i) }
-    ensures { into.new ≡ part (area (areas board.now) i) at (length into.old) }
+    requires inside { at + length into.old ≤ length (area (B.areas board.now) i) }
+    ensures { into.new ≡ part (area (B.areas board.now) i) at (length into.old) }
 {
     for k in 0..into.len() {
         let Some(byte) = board.load(i, at + k) else {
@@ -34,8 +34,8 @@ fn load_into<B: Board>(board: &B, i: usize, at: usize, into: &mut [u8])
 /// The message of n bytes in a range.
 pub(crate) fn load_message<B: Board>(board: &B, i: usize, at: u32, n: u32, time: Time) -> Message
     requires short { n ≤ 64 }
-    requires inside { at + n ≤ length (area (areas board.now) i) }
-    ensures { letter_of result ≡ record { bytes = part (area (areas board.now) i) at n; time = time } }
+    requires inside { at + n ≤ length (area (B.areas board.now) i) }
+    ensures { letter_of result ≡ record { bytes = part (area (B.areas board.now) i) at n; time = time } }
 {
     let mut bytes = [0; LONGEST];
     load_into(board, i, at as usize, &mut bytes[0..n as usize]);
@@ -49,8 +49,8 @@ pub(crate) fn load_message<B: Board>(board: &B, i: usize, at: u32, n: u32, time:
 /// The name of n bytes in a range.
 pub(crate) fn load_name<B: Board>(board: &B, i: usize, at: u32, n: u32) -> Name
     requires short { n ≤ 16 }
-    requires inside { at + n ≤ length (area (areas board.now) i) }
-    ensures { result ≡ padded (part (area (areas board.now) i) at n) }
+    requires inside { at + n ≤ length (area (B.areas board.now) i) }
+    ensures { result ≡ padded (part (area (B.areas board.now) i) at n) }
 {
     let mut bytes = [0; 16];
     load_into(board, i, at as usize, &mut bytes[0..n as usize]);
@@ -62,8 +62,8 @@ pub(crate) fn load_name<B: Board>(board: &B, i: usize, at: u32, n: u32) -> Name
 
 /// Writes a message into an area.
 pub(crate) fn store_message<B: Board>(m: &Message, board: &mut B, i: usize, at: u32)
-    requires inside { at + length (letter_of m.now).bytes ≤ length (area (areas board.old) i) }
-    ensures { areas board.new ≡ slice_set (areas board.old) i (patched (area (areas board.old) i) at (letter_of m.now).bytes) }
+    requires inside { at + length (letter_of m.now).bytes ≤ length (area (B.areas board.old) i) }
+    ensures { B.areas board.new ≡ slice_set (B.areas board.old) i (patched (area (B.areas board.old) i) at (letter_of m.now).bytes) }
 {
     for k in 0..m.size() {
         let _ = board.store(i, at as usize + k, m.bytes[k]);

@@ -33,7 +33,7 @@ const PARTITION_ERROR: u8 = 7;
 impl<B: Board> System<B> {
     /// The entry of a fault event, where the response asks for one.
     fn note(&mut self, partition: u8, event: u8, response: Response)
-        ensures { world_of areas self.new ≡ with_core (logged partition event response (core_of self.old.core)) (world_of areas self.old) }
+        ensures { world_of B.areas self.new ≡ with_core (logged partition event response (core_of self.old.core)) (world_of B.areas self.old) }
     {
         if response.log {
             self.core.log.note(Entry {
@@ -48,7 +48,7 @@ impl<B: Board> System<B> {
     /// What an action does to a partition.
     fn act(&mut self, action: Action, q: u8)
         requires { q < 8 }
-        ensures { gives (world_of areas self.new) (reply_of (Responded action)) ≡ settled q (carried action q (core_of self.old.core)) (world_of areas self.old) }
+        ensures { gives (world_of B.areas self.new) (reply_of (Responded action)) ≡ settled q (carried action q (core_of self.old.core)) (world_of B.areas self.old) }
     {
         let i = usize::from(q);
         match action {
@@ -66,7 +66,7 @@ impl<B: Board> System<B> {
 
     /// A frame of plan 0 begins now, with every partition reset.
     fn restart(&mut self)
-        ensures { world_of areas self.new ≡ with_core (restarted (core_of self.old.core)) (world_of areas self.old) }
+        ensures { world_of B.areas self.new ≡ with_core (restarted (core_of self.old.core)) (world_of B.areas self.old) }
     {
         self.core.clock = Clock {
             plan: 0,
@@ -80,7 +80,7 @@ impl<B: Board> System<B> {
 
     /// What an action does to the system.
     fn act_whole(&mut self, action: Action)
-        ensures { gives (world_of areas self.new) (reply_of (Responded action)) ≡ settled 0 (system_carried self.old.core.tables action (core_of self.old.core)) (world_of areas self.old) }
+        ensures { gives (world_of B.areas self.new) (reply_of (Responded action)) ≡ settled 0 (system_carried self.old.core.tables action (core_of self.old.core)) (world_of B.areas self.old) }
     {
         match action {
             Action::Ignore | Action::Signal | Action::Suspend => {}
@@ -97,7 +97,7 @@ impl<B: Board> System<B> {
     /// Carries a decision out: the log entry first, then the action.
     fn carry_out(&mut self, decision: Decision) -> Answer
         requires { Reaches decision.scope }
-        ensures { gives (world_of areas self.new) (reply_of result) ≡ settled (home decision.scope) (executed decision.scope decision self.old.core.tables (core_of self.old.core)) (world_of areas self.old) }
+        ensures { gives (world_of B.areas self.new) (reply_of result) ≡ settled (home decision.scope) (executed decision.scope decision self.old.core.tables (core_of self.old.core)) (world_of B.areas self.old) }
     {
         let Decision {
             scope,
@@ -120,7 +120,7 @@ impl<B: Board> System<B> {
     /// A load or store outside the area is a fault of its guest.
     pub(crate) fn stray(&mut self, q: u8) -> Answer
         requires { q < 8 }
-        ensures { gives (world_of areas self.new) (reply_of result) ≡ settled q (strayed self.old.core.tables (core_of self.old.core) q) (world_of areas self.old) }
+        ensures { gives (world_of B.areas self.new) (reply_of result) ≡ settled q (strayed self.old.core.tables (core_of self.old.core) q) (world_of B.areas self.old) }
     {
         let decision = decide(&self.core.tables, q, MEM_PROTECTION);
         let _ = self.carry_out(decision);
@@ -129,7 +129,7 @@ impl<B: Board> System<B> {
 
     pub(crate) fn fault(&mut self, q: u8, event: u8) -> Answer
         requires { q < 8 }
-        ensures { gives (world_of areas self.new) (reply_of result) ≡ settled q (fault self.old.core.tables (core_of self.old.core) q event) (world_of areas self.old) }
+        ensures { gives (world_of B.areas self.new) (reply_of result) ≡ settled q (fault self.old.core.tables (core_of self.old.core) q event) (world_of B.areas self.old) }
     {
         if event > 6 {
             return Answer::Refused(Refusal::InvalidParam);
@@ -139,7 +139,7 @@ impl<B: Board> System<B> {
     }
 
     pub(crate) fn system_fault(&mut self, event: u8) -> Answer
-        ensures { gives (world_of areas self.new) (reply_of result) ≡ settled 0 (system_fault self.old.core.tables (core_of self.old.core) event) (world_of areas self.old) }
+        ensures { gives (world_of B.areas self.new) (reply_of result) ≡ settled 0 (system_fault self.old.core.tables (core_of self.old.core) event) (world_of B.areas self.old) }
     {
         if event < 8 || event > 11 {
             return Answer::Refused(Refusal::InvalidParam);
@@ -150,7 +150,7 @@ impl<B: Board> System<B> {
 
     pub(crate) fn raise_partition_error(&mut self, q: u8, args: Args) -> Answer
         requires { q < 8 }
-        ensures { gives (world_of areas self.new) (reply_of result) ≡ performed raise_partition_error q args (world_of areas self.old) }
+        ensures { gives (world_of B.areas self.new) (reply_of result) ≡ performed raise_partition_error q args (world_of B.areas self.old) }
     {
         let decision = decide(&self.core.tables, q, PARTITION_ERROR);
         self.carry_out(decision)
@@ -158,7 +158,7 @@ impl<B: Board> System<B> {
 
     pub(crate) fn read_log(&mut self, q: u8, args: Args) -> Answer
         requires { q < 8 }
-        ensures { gives (world_of areas self.new) (reply_of result) ≡ performed read_log q args (world_of areas self.old) }
+        ensures { gives (world_of B.areas self.new) (reply_of result) ≡ performed read_log q args (world_of B.areas self.old) }
     {
         if !is_system(&self.core.tables, q) {
             return Answer::Refused(Refusal::PermError);
@@ -174,7 +174,7 @@ impl<B: Board> System<B> {
 
     pub(crate) fn reset_system(&mut self, q: u8, args: Args) -> Answer
         requires { q < 8 }
-        ensures { gives (world_of areas self.new) (reply_of result) ≡ performed reset_system q args (world_of areas self.old) }
+        ensures { gives (world_of B.areas self.new) (reply_of result) ≡ performed reset_system q args (world_of B.areas self.old) }
     {
         if args[0] > 1 {
             return Answer::Refused(Refusal::InvalidParam);
@@ -193,7 +193,7 @@ impl<B: Board> System<B> {
 
     pub(crate) fn halt_system(&mut self, q: u8, args: Args) -> Answer
         requires { q < 8 }
-        ensures { gives (world_of areas self.new) (reply_of result) ≡ performed halt_system q args (world_of areas self.old) }
+        ensures { gives (world_of B.areas self.new) (reply_of result) ≡ performed halt_system q args (world_of B.areas self.old) }
     {
         if !is_system(&self.core.tables, q) {
             return Answer::Refused(Refusal::PermError);

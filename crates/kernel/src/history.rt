@@ -13,11 +13,11 @@ use vector::checked::Checked;
 
 /// Boots a checked vector on a board, takes the events of the history one after another, and writes each answer beside its event.
 pub fn run<B: Board>(vector: Checked, board: B, history: &mut [Exchange]) -> System<B>
-    ensures ends { world_of areas result ≡ ended (tables_of vector.entry.bytes.now) (areas board) (events_of history.old) }
-    ensures told { lines_of history.new ≡ lines (tables_of vector.entry.bytes.now) (boot_of (tables_of vector.entry.bytes.now) (areas board)) (events_of history.old) }
-    ensures isolated { Isolating (tables_of vector.entry.bytes.now) (areas board) (events_of history.old) (lines_of history.new) (world_of areas result).state }
-    ensures preserved { Preserving (tables_of vector.entry.bytes.now) (events_of history.old) (areas board) (areas result.board) }
-    ensures lawful { Lawful (tables_of vector.entry.bytes.now) (world_of areas result).state.core }
+    ensures ends { world_of B.areas result ≡ ended (tables_of vector.entry.bytes.now) (B.areas board) (events_of history.old) }
+    ensures told { lines_of history.new ≡ lines (tables_of vector.entry.bytes.now) (boot_of (tables_of vector.entry.bytes.now) (B.areas board)) (events_of history.old) }
+    ensures isolated { Isolating (tables_of vector.entry.bytes.now) (B.areas board) (events_of history.old) (lines_of history.new) (world_of B.areas result).state }
+    ensures preserved { Preserving (tables_of vector.entry.bytes.now) (events_of history.old) (B.areas board) (B.areas result.board) }
+    ensures lawful { Lawful (tables_of vector.entry.bytes.now) (world_of B.areas result).state.core }
 {
     let mut system = System::boot(vector, board);
     for i in 0..history.len() {

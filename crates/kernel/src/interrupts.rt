@@ -42,7 +42,7 @@ fn raise(parts: &mut [Partition; 8], mask: u8, bits: u32)
 impl<B: Board> System<B> {
     pub(crate) fn raise_ipvi(&mut self, q: u8, args: Args) -> Answer
         requires { q < 8 }
-        ensures { gives (world_of areas self.new) (reply_of result) ≡ performed raise_ipvi q args (world_of areas self.old) }
+        ensures { gives (world_of B.areas self.new) (reply_of result) ≡ performed raise_ipvi q args (world_of B.areas self.old) }
     {
         let number = args[0];
         if number > 7 {
@@ -58,7 +58,7 @@ impl<B: Board> System<B> {
 
     pub(crate) fn get_irqs(&mut self, q: u8, args: Args) -> Answer
         requires { q < 8 }
-        ensures { gives (world_of areas self.new) (reply_of result) ≡ performed get_irqs q args (world_of areas self.old) }
+        ensures { gives (world_of B.areas self.new) (reply_of result) ≡ performed get_irqs q args (world_of B.areas self.old) }
     {
         let partition = self.core.parts[q as usize];
         Answer::Words {
@@ -69,7 +69,7 @@ impl<B: Board> System<B> {
 
     pub(crate) fn set_irq_mask(&mut self, q: u8, args: Args) -> Answer
         requires { q < 8 }
-        ensures { gives (world_of areas self.new) (reply_of result) ≡ performed set_irq_mask q args (world_of areas self.old) }
+        ensures { gives (world_of B.areas self.new) (reply_of result) ≡ performed set_irq_mask q args (world_of B.areas self.old) }
     {
         self.core.parts[q as usize].mask(args[0]);
         Answer::Done
@@ -77,7 +77,7 @@ impl<B: Board> System<B> {
 
     pub(crate) fn clear_irq_mask(&mut self, q: u8, args: Args) -> Answer
         requires { q < 8 }
-        ensures { gives (world_of areas self.new) (reply_of result) ≡ performed clear_irq_mask q args (world_of areas self.old) }
+        ensures { gives (world_of B.areas self.new) (reply_of result) ≡ performed clear_irq_mask q args (world_of B.areas self.old) }
     {
         self.core.parts[q as usize].unmask(args[0]);
         Answer::Done
@@ -85,7 +85,7 @@ impl<B: Board> System<B> {
 
     pub(crate) fn clear_irq_pending(&mut self, q: u8, args: Args) -> Answer
         requires { q < 8 }
-        ensures { gives (world_of areas self.new) (reply_of result) ≡ performed clear_irq_pending q args (world_of areas self.old) }
+        ensures { gives (world_of B.areas self.new) (reply_of result) ≡ performed clear_irq_pending q args (world_of B.areas self.old) }
     {
         self.core.parts[q as usize].acknowledge(args[0]);
         Answer::Done
@@ -93,7 +93,7 @@ impl<B: Board> System<B> {
 
     /// A line signals its own bit to its owner.
     pub(crate) fn line(&mut self, line: u8) -> Answer
-        ensures { gives (world_of areas self.new) (reply_of result) ≡ settled 0 (line_of self.old.core.tables (core_of self.old.core) line) (world_of areas self.old) }
+        ensures { gives (world_of B.areas self.new) (reply_of result) ≡ settled 0 (line_of self.old.core.tables (core_of self.old.core) line) (world_of B.areas self.old) }
     {
         if line > 15 {
             return Answer::Refused(Refusal::InvalidParam);

@@ -17,14 +17,14 @@ use machine::event::Args;
 impl<B: Board> System<B> {
     pub(crate) fn get_time(&mut self, q: u8, args: Args) -> Answer
         requires { q < 8 }
-        ensures { gives (world_of areas self.new) (reply_of result) ≡ performed get_time q args (world_of areas self.old) }
+        ensures { gives (world_of B.areas self.new) (reply_of result) ≡ performed get_time q args (world_of B.areas self.old) }
     {
         Answer::Time(self.core.clock.time)
     }
 
     pub(crate) fn get_partition_status(&mut self, q: u8, args: Args) -> Answer
         requires { q < 8 }
-        ensures { gives (world_of areas self.new) (reply_of result) ≡ performed get_partition_status q args (world_of areas self.old) }
+        ensures { gives (world_of B.areas self.new) (reply_of result) ≡ performed get_partition_status q args (world_of B.areas self.old) }
     {
         let target = args[0];
         if !is_there(&self.core.tables, target) {
@@ -38,7 +38,7 @@ impl<B: Board> System<B> {
 
     pub(crate) fn halt_partition(&mut self, q: u8, args: Args) -> Answer
         requires { q < 8 }
-        ensures { gives (world_of areas self.new) (reply_of result) ≡ performed halt_partition q args (world_of areas self.old) }
+        ensures { gives (world_of B.areas self.new) (reply_of result) ≡ performed halt_partition q args (world_of B.areas self.old) }
     {
         let target = args[0];
         if !is_there(&self.core.tables, target) {
@@ -53,7 +53,7 @@ impl<B: Board> System<B> {
 
     pub(crate) fn suspend_partition(&mut self, q: u8, args: Args) -> Answer
         requires { q < 8 }
-        ensures { gives (world_of areas self.new) (reply_of result) ≡ performed suspend_partition q args (world_of areas self.old) }
+        ensures { gives (world_of B.areas self.new) (reply_of result) ≡ performed suspend_partition q args (world_of B.areas self.old) }
     {
         let target = args[0];
         if !is_there(&self.core.tables, target) {
@@ -72,7 +72,7 @@ impl<B: Board> System<B> {
 
     pub(crate) fn resume_partition(&mut self, q: u8, args: Args) -> Answer
         requires { q < 8 }
-        ensures { gives (world_of areas self.new) (reply_of result) ≡ performed resume_partition q args (world_of areas self.old) }
+        ensures { gives (world_of B.areas self.new) (reply_of result) ≡ performed resume_partition q args (world_of B.areas self.old) }
     {
         let target = args[0];
         if !is_there(&self.core.tables, target) {
@@ -91,7 +91,7 @@ impl<B: Board> System<B> {
 
     pub(crate) fn reset_partition(&mut self, q: u8, args: Args) -> Answer
         requires { q < 8 }
-        ensures { gives (world_of areas self.new) (reply_of result) ≡ performed reset_partition q args (world_of areas self.old) }
+        ensures { gives (world_of B.areas self.new) (reply_of result) ≡ performed reset_partition q args (world_of B.areas self.old) }
     {
         let target = args[0];
         if args[1] > 1 {
@@ -113,7 +113,7 @@ impl<B: Board> System<B> {
 
     pub(crate) fn idle_self(&mut self, q: u8, args: Args) -> Answer
         requires { q < 8 }
-        ensures { gives (world_of areas self.new) (reply_of result) ≡ performed idle_self q args (world_of areas self.old) }
+        ensures { gives (world_of B.areas self.new) (reply_of result) ≡ performed idle_self q args (world_of B.areas self.old) }
     {
         self.core.parts[q as usize].idle();
         Answer::Done
@@ -121,7 +121,7 @@ impl<B: Board> System<B> {
 
     pub(crate) fn switch_plan(&mut self, q: u8, args: Args) -> Answer
         requires { q < 8 }
-        ensures { gives (world_of areas self.new) (reply_of result) ≡ performed switch_plan q args (world_of areas self.old) }
+        ensures { gives (world_of B.areas self.new) (reply_of result) ≡ performed switch_plan q args (world_of B.areas self.old) }
     {
         let plan = args[0];
         if plan as usize >= self.core.tables.plans.count {
@@ -143,7 +143,7 @@ impl<B: Board> System<B> {
 
     pub(crate) fn get_plan_status(&mut self, q: u8, args: Args) -> Answer
         requires { q < 8 }
-        ensures { gives (world_of areas self.new) (reply_of result) ≡ performed get_plan_status q args (world_of areas self.old) }
+        ensures { gives (world_of B.areas self.new) (reply_of result) ≡ performed get_plan_status q args (world_of B.areas self.old) }
     {
         Answer::Plans {
             plan: self.core.clock.plan,

@@ -91,7 +91,7 @@ impl<B: Board> System<B> {
     /// Whether a range holds 1 byte to the longest message of the port's channel.
     fn is_sendable(&self, q: u8, args: &Args) -> bool
         requires { slice_index args.now 0 < self.now.core.tables.ports.count }
-        ensures is { result ≡ sendable_of self.now.core.tables (area (areas self.now.board) q) args.now }
+        ensures is { result ≡ sendable_of self.now.core.tables (area (B.areas self.now.board) q) args.now }
         ensures short { result ≡ true → slice_index args.now 2 ≤ 64 }
     {
         let channel = self.core.tables.ports.rows[args[0] as usize].channel;
@@ -120,7 +120,7 @@ impl<B: Board> System<B> {
 
     fn create(&mut self, kind: ChannelKind, q: u8, args: Args) -> Answer
         requires { q < 8 }
-        ensures { gives (world_of areas self.new) (reply_of result) ≡ performed (create_of kind) q args (world_of areas self.old) }
+        ensures { gives (world_of B.areas self.new) (reply_of result) ≡ performed (create_of kind) q args (world_of B.areas self.old) }
     {
         if !is_ranged(&self.board, q as usize, args[0], args[1]) || args[1] > 16 || args[3] > 1 {
             return Answer::Refused(Refusal::InvalidParam);
@@ -141,21 +141,21 @@ impl<B: Board> System<B> {
 
     pub(crate) fn create_sampling_port(&mut self, q: u8, args: Args) -> Answer
         requires { q < 8 }
-        ensures { gives (world_of areas self.new) (reply_of result) ≡ performed create_sampling_port q args (world_of areas self.old) }
+        ensures { gives (world_of B.areas self.new) (reply_of result) ≡ performed create_sampling_port q args (world_of B.areas self.old) }
     {
         self.create(ChannelKind::Sampling, q, args)
     }
 
     pub(crate) fn create_queuing_port(&mut self, q: u8, args: Args) -> Answer
         requires { q < 8 }
-        ensures { gives (world_of areas self.new) (reply_of result) ≡ performed create_queuing_port q args (world_of areas self.old) }
+        ensures { gives (world_of B.areas self.new) (reply_of result) ≡ performed create_queuing_port q args (world_of B.areas self.old) }
     {
         self.create(ChannelKind::Queuing, q, args)
     }
 
     pub(crate) fn write_sampling_message(&mut self, q: u8, args: Args) -> Answer
         requires { q < 8 }
-        ensures { gives (world_of areas self.new) (reply_of result) ≡ performed write_sampling_message q args (world_of areas self.old) }
+        ensures { gives (world_of B.areas self.new) (reply_of result) ≡ performed write_sampling_message q args (world_of B.areas self.old) }
     {
         if !(self.is_usable(q, ChannelKind::Sampling, args[0]) && self.is_sendable(q, &args)) {
             return Answer::Refused(Refusal::InvalidParam);
@@ -178,7 +178,7 @@ impl<B: Board> System<B> {
 
     pub(crate) fn send_queuing_message(&mut self, q: u8, args: Args) -> Answer
         requires { q < 8 }
-        ensures { gives (world_of areas self.new) (reply_of result) ≡ performed send_queuing_message q args (world_of areas self.old) }
+        ensures { gives (world_of B.areas self.new) (reply_of result) ≡ performed send_queuing_message q args (world_of B.areas self.old) }
     {
         if !(self.is_usable(q, ChannelKind::Queuing, args[0]) && self.is_sendable(q, &args)) {
             return Answer::Refused(Refusal::InvalidParam);
@@ -206,7 +206,7 @@ impl<B: Board> System<B> {
 
     pub(crate) fn read_sampling_message(&mut self, q: u8, args: Args) -> Answer
         requires { q < 8 }
-        ensures { gives (world_of areas self.new) (reply_of result) ≡ performed read_sampling_message q args (world_of areas self.old) }
+        ensures { gives (world_of B.areas self.new) (reply_of result) ≡ performed read_sampling_message q args (world_of B.areas self.old) }
     {
         if !(self.is_usable(q, ChannelKind::Sampling, args[0])
             && is_ranged(&self.board, q as usize, args[1], args[2]))
@@ -234,7 +234,7 @@ impl<B: Board> System<B> {
 
     pub(crate) fn receive_queuing_message(&mut self, q: u8, args: Args) -> Answer
         requires { q < 8 }
-        ensures { gives (world_of areas self.new) (reply_of result) ≡ performed receive_queuing_message q args (world_of areas self.old) }
+        ensures { gives (world_of B.areas self.new) (reply_of result) ≡ performed receive_queuing_message q args (world_of B.areas self.old) }
     {
         if !(self.is_usable(q, ChannelKind::Queuing, args[0])
             && is_ranged(&self.board, q as usize, args[1], args[2]))
@@ -263,7 +263,7 @@ impl<B: Board> System<B> {
 
     pub(crate) fn get_queuing_status(&mut self, q: u8, args: Args) -> Answer
         requires { q < 8 }
-        ensures { gives (world_of areas self.new) (reply_of result) ≡ performed get_queuing_status q args (world_of areas self.old) }
+        ensures { gives (world_of B.areas self.new) (reply_of result) ≡ performed get_queuing_status q args (world_of B.areas self.old) }
     {
         if !self.is_usable(q, ChannelKind::Queuing, args[0]) {
             return Answer::Refused(Refusal::InvalidParam);

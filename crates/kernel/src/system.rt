@@ -59,7 +59,7 @@ const CALLS: [Hypercall; 25] = [
 impl<B: Board> System<B> {
     /// Boots a checked vector on a board; on one that does not fit the system is halted.
     pub fn boot(vector: Checked, board: B) -> System<B>
-        ensures { world_of areas result ≡ booted (tables_of vector.entry.bytes.now) (areas board) }
+        ensures { world_of B.areas result ≡ booted (tables_of vector.entry.bytes.now) (B.areas board) }
     {
         let tables = vector.tables();
         let halted = !is_fitting(&tables, &board);
@@ -97,7 +97,7 @@ impl<B: Board> System<B> {
 
     fn load(&mut self, q: u8, offset: u32) -> Answer
         requires { q < 8 }
-        ensures { gives (world_of areas self.new) (reply_of result) ≡ settled q (load self.old.core.tables (core_of self.old.core) (area (areas self.old.board) q) q offset) (world_of areas self.old) }
+        ensures { gives (world_of B.areas self.new) (reply_of result) ≡ settled q (load self.old.core.tables (core_of self.old.core) (area (B.areas self.old.board) q) q offset) (world_of B.areas self.old) }
     {
         match self.board.load(usize::from(q), offset as usize) {
             Some(byte) => Answer::Byte(byte),
@@ -107,7 +107,7 @@ impl<B: Board> System<B> {
 
     fn store(&mut self, q: u8, offset: u32, byte: u8) -> Answer
         requires { q < 8 }
-        ensures { gives (world_of areas self.new) (reply_of result) ≡ settled q (store self.old.core.tables (core_of self.old.core) (area (areas self.old.board) q) q offset byte) (world_of areas self.old) }
+        ensures { gives (world_of B.areas self.new) (reply_of result) ≡ settled q (store self.old.core.tables (core_of self.old.core) (area (B.areas self.old.board) q) q offset byte) (world_of B.areas self.old) }
     {
         match self.board.store(usize::from(q), offset as usize, byte) {
             Some(()) => Answer::Done,
@@ -117,7 +117,7 @@ impl<B: Board> System<B> {
 
     /// Goes on to the time t, which is not before now and not too far ahead.
     fn tick(&mut self, t: Time) -> Answer
-        ensures { gives (world_of areas self.new) (reply_of result) ≡ settled 0 (tick self.old.core.tables (core_of self.old.core) t) (world_of areas self.old) }
+        ensures { gives (world_of B.areas self.new) (reply_of result) ≡ settled 0 (tick self.old.core.tables (core_of self.old.core) t) (world_of B.areas self.old) }
     {
         let time = self.core.clock.time;
         if t < time || t - time > FARTHEST {
@@ -134,7 +134,7 @@ impl<B: Board> System<B> {
 
     fn perform(&mut self, call: Hypercall, q: u8, args: Args) -> Answer
         requires { q < 8 }
-        ensures { gives (world_of areas self.new) (reply_of result) ≡ performed (perform_of call) q args (world_of areas self.old) }
+        ensures { gives (world_of B.areas self.new) (reply_of result) ≡ performed (perform_of call) q args (world_of B.areas self.old) }
     {
         match call {
             Hypercall::GetTime => self.get_time(q, args),
@@ -167,7 +167,7 @@ impl<B: Board> System<B> {
 
     fn call(&mut self, q: u8, number: u8, args: Args) -> Answer
         requires { q < 8 }
-        ensures { gives (world_of areas self.new) (reply_of result) ≡ performed (called number) q args (world_of areas self.old) }
+        ensures { gives (world_of B.areas self.new) (reply_of result) ≡ performed (called number) q args (world_of B.areas self.old) }
     {
         if number >= 25 {
             return Answer::Refused(Refusal::UnknownHypercall);
@@ -178,10 +178,10 @@ impl<B: Board> System<B> {
     /// Takes one event. A refusal moves nothing, plans switch only where a frame ends or the system is reset, and an event of one
     /// partition leaves every other area as it was, save a system partition's cold reset.
     pub fn event(&mut self, e: Event) -> Answer
-        ensures is { gives (world_of areas self.new) (reply_of result) ≡ stepped e (world_of areas self.old) }
-        ensures unmoved { Unmoved (reply_of result) (world_of areas self.old) (world_of areas self.new) }
-        ensures planned { Planned e (world_of areas self.old) (world_of areas self.new) }
-        ensures apart { Apart self.old.core.tables e (areas self.old.board) (areas self.new.board) }
+        ensures is { gives (world_of B.areas self.new) (reply_of result) ≡ stepped e (world_of B.areas self.old) }
+        ensures unmoved { Unmoved (reply_of result) (world_of B.areas self.old) (world_of B.areas self.new) }
+        ensures planned { Planned e (world_of B.areas self.old) (world_of B.areas self.new) }
+        ensures apart { Apart self.old.core.tables e (B.areas self.old.board) (B.areas self.new.board) }
     {
         self.handle(e)
     }
@@ -196,7 +196,7 @@ impl<B: Board> System<B> {
 
     /// Decides what an event does.
     fn handle(&mut self, e: Event) -> Answer
-        ensures { gives (world_of areas self.new) (reply_of result) ≡ stepped e (world_of areas self.old) }
+        ensures { gives (world_of B.areas self.new) (reply_of result) ≡ stepped e (world_of B.areas self.old) }
     {
         if self.core.halted {
             return Answer::Refused(Refusal::SystemHalted);

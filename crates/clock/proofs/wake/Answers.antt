@@ -15,6 +15,6 @@ loop-i-preserved c =
     let k = s.partition in
     let ps = c.loop-i.parts in
     let l : c.loop-i.i < length ss = omega arith in
-    ap (set ps k) (c.wake.ensures ∙ ap (λ b. woken b (get_or ps k nobody)) c.is-within.ensures)
+    ap (set ps k) (c.wake.ensures ∙ ap (λ b. woken b (get_or ps k nobody)) c.is_within.ensures)
     ∙ ap (λ qs. set qs k (woken (within c.args.lo c.args.hi s.start) (get_or qs k nobody))) c.loop-i.invariant
     ∙ sym (wake-turn ss c.loop-i.i c.args.lo c.args.hi c.args.parts.now slot0 nobody l)

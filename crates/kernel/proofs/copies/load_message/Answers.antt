@@ -8,5 +8,5 @@ use Rattle.kernel.proofs.copies.load_message.Goals as goal
 pub returns : goal.returns
 returns g c =
     let a = area (g.B.Board.areas c.args.board.now) c.args.i in
-    let e : c.load-into.new.into ≡ part a c.args.at c.args.n = search rules in
-    ap {B = Letter} (λ (b : List ℕ). record { bytes = b; time = c.args.time }) (front-is c.load-into.new.into _ a c.args.at c.args.n e c.requires.inside)
+    let e : c.load_into.new.into ≡ part a c.args.at c.args.n = search rules in
+    ap {B = Letter} (λ (b : List ℕ). record { bytes = b; time = c.args.time }) (front-is c.load_into.new.into _ a c.args.at c.args.n e c.requires.inside)

@@ -6,8 +6,8 @@ use Rattle.kernel.proofs.copies.store_message.Goals as goal
 pub loop-k-init : goal.loop-k-init
 loop-k-init g c = fill_none (g.B.Board.areas c.args.board.now) c.args.i c.args.at
 
-pub overflow-add-at : goal.overflow-add-at
-overflow-add-at g c = omega (arith, c.size-k-end.ensures.short)
+pub overflow_add-at : goal.overflow_add-at
+overflow_add-at g c = omega (arith, c.size-k-end.ensures.short)
 
 pub bounds-m-k : goal.bounds-m-k
 bounds-m-k g c = omega (arith, c.size-k-end.ensures.short)

@@ -7,11 +7,11 @@ pub loop-i-init : goal.loop-i-init
 unfolding holder
 loop-i-init c = refl
 
-pub returns-then-is-covering : goal.returns-then-is-covering
-returns-then-is-covering c = finds _ c.args.plan.now.slots _ _ (omega arith) c.loop-i-test.true c.loop-i.invariant (sym c.if-is-covering.ensures)
+pub returns-then-is_covering : goal.returns-then-is_covering
+returns-then-is_covering c = finds _ c.args.plan.now.slots _ _ (omega arith) c.loop-i-test.true c.loop-i.invariant (sym c.if-is_covering.ensures)
 
 pub loop-i-preserved : goal.loop-i-preserved
-loop-i-preserved c = passes _ c.args.plan.now.slots _ (omega arith) c.loop-i.invariant (sym c.if-is-covering.ensures)
+loop-i-preserved c = passes _ c.args.plan.now.slots _ (omega arith) c.loop-i.invariant (sym c.if-is_covering.ensures)
 
 pub returns : goal.returns
 returns c = sym (ap (λ n. holder (take n c.args.plan.now.slots) c.args.offset) (omega arith) ∙ c.loop-i.invariant)

@@ -1,5 +1,5 @@
 use Rattle.std.proofs.Common.{◌≡◌, ap, ◌∙◌, add-one, arith, rules}
-use Rattle.machine.specs.Circle.{turns, with_port}
+use Rattle.machine.specs.Circle.{turns, with_port, with_links}
 use Rattle.lookup.proofs.rounds.with_round.Goals as goal
 
 pub loop-i-init : goal.loop-i-init
@@ -12,7 +12,7 @@ loop-i-preserved c = rw add-one (search rules)
 
 pub loop-q-preserved : goal.loop-q-preserved
 unfolding turns
-loop-q-preserved c = rw add-one (search rules)
+loop-q-preserved c = rw add-one (c.with_links-found.ensures ∙ ap (with_links c.args.tables.now c.loop-q.q) c.loop-q.invariant)
 
 pub loop-q-init : goal.loop-q-init
 unfolding turns

@@ -10,8 +10,8 @@ loop-i-init c = (refl, tt)
 pub loop-i-preserved : goal.loop-i-preserved
 unfolding named
 loop-i-preserved c = (
-  rw add-one (c.pick-found.ensures ∙ ap₂ (λ (b : Bool) (o : Option ℕ). cond b (Some c.loop-i.i) o) c.is-port.ensures c.loop-i.invariant.0),
-  picked c.args.tables.now.ports.count c.loop-i.i c.is-port.result c.loop-i.found c.pick-found.result c.pick-found.ensures c.loop-i-test.true c.loop-i.invariant.1,
+  rw add-one (c.pick-found.ensures ∙ ap₂ (λ (b : Bool) (o : Option ℕ). cond b (Some c.loop-i.i) o) c.is_port.ensures c.loop-i.invariant.0),
+  picked c.args.tables.now.ports.count c.loop-i.i c.is_port.result c.loop-i.found c.pick-found.result c.pick-found.ensures c.loop-i-test.true c.loop-i.invariant.1,
 )
 
 pub returns : goal.returns

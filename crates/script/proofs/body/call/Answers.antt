@@ -4,4 +4,4 @@ use Rattle.script.proofs.Cuts.{rest-is}
 use Rattle.script.proofs.body.call.Goals as goal
 
 pub returns : goal.returns
-returns c = rw (c.read-args.ensures ∙ ap args_of (rest-is 2 c.args.body.now))
+returns c = rw (c.read_args.ensures ∙ ap args_of (rest-is 2 c.args.body.now))

@@ -19,5 +19,5 @@ returns c =
           ∙ (ap (λ xs. set (chans_of h) i (map letter_of xs)) c.pop.ensures.left
           ∙ (ap (set (chans_of h) i) (rest_letters (entries (get_or h.queues i empty) cells))
           ∙ ap (λ (xs : List Letter). set (chans_of h) i (rest xs)) (sym (views-at h.queues h.cells i))));
-      left = omega (arith, c.saturating-sub.ensures, c.count-count.ensures.is, length_rest (chan_of h i));
+      left = omega (arith, c.saturating_sub.ensures, c.count-count.ensures.is, length_rest (chan_of h i));
     }

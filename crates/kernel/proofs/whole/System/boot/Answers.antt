@@ -1,47 +1,23 @@
 use Rattle.kernel.proofs.Grounding.{planned, framed, slotted, owned, bounded, started}
 use Rattle.kernel.proofs.whole.System.boot.Goals as goal
 
-pub invariant-of-result : goal.invariant-of-result
-invariant-of-result g c =
+pub invariant_of-result : goal.invariant_of-result
+invariant_of-result g c =
     let t = c.tables-tables.result in
     let s = c.tables-tables.ensures.sound in
-    let f = c.tables-tables.ensures.fair in (
-      c.new-3.ensures.sound,
-      (
-        c.new-2.ensures.sound,
-        (
-          s.1,
-          (
-            planned t s,
-            (
-              framed t s,
-              (
-                slotted t s,
-                (
-                  owned t s,
-                  (
-                    f.0,
-                    (
-                      s.4.0,
-                      (
-                        s.4.1,
-                        (
-                          bounded t s f,
-                          (
-                            s.5,
-                            (
-                              started t s,
-                              tt,
-                            ),
-                          ),
-                        ),
-                      ),
-                    ),
-                  ),
-                ),
-              ),
-            ),
-          ),
-        ),
-      ),
-    )
+    let f = c.tables-tables.ensures.fair in
+    record {
+      noted = c.new-3.ensures.sound;
+      rings = c.new-2.ensures.sound;
+      few = s.1;
+      planned = planned t s;
+      framed = framed t s;
+      slotted = slotted t s;
+      owned = owned t s;
+      within = f.0;
+      ported = s.4.0;
+      joined = s.4.1;
+      bounded = bounded t s f;
+      lined = s.5;
+      timely = started t s;
+    }
