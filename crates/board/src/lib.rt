@@ -1,4 +1,6 @@
 //! What a board means to the core: eight areas of bytes, and three ways to reach them.
+#![tactic(auto)]
+
 ghost use Rattle.std.specs.Prelude.{◌≡◌, ℕ, List, length};
 ghost use Rattle.board.specs.Areas.{area, loaded, stored, wrote};
 

@@ -1,4 +1,6 @@
 //! Two boards that own their memory: one finds its areas by fences, one through a page table.
+#![tactic(auto)]
+
 mod fence;
 mod fenced;
 mod fences;

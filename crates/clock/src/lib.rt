@@ -1,4 +1,6 @@
 //! Time: a tick at a stroke, whatever the microseconds that it passes.
+#![tactic(auto)]
+
 ghost use Rattle.std.specs.Prelude.{◌≡◌, ◌-◌, ◌≤◌};
 ghost use Rattle.vector.specs.Sound.{SoundPlan, SoundPlans};
 ghost use Rattle.machine.specs.Questions.{slots_of};

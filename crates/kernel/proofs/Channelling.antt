@@ -1,14 +1,14 @@
 -- The array of rings, where one is changed.
-use Rattle.std.proofs.Common.{◌≡◌, ℕ, zero, suc, ◌-◌, ◌<◌, List, [], ◌∷◌, ◌++◌, map, length, get_or, set, replicate, Some, None, Option, sym, refl, ap, ◌∙◌, subst, ⊎_elim, arith}
-use Rattle.std.proofs.lemmas.List.{get_or-replicate, get_or-set_same, get_or-set_other, set-set, length-map, map_push}
+use Rattle.std.proofs.Common.{◌≡◌, ℕ, zero, suc, ◌-◌, ◌<◌, List, [], ◌∷◌, ◌++◌, map, length, get_or, set, replicate, sym, refl, ap, ◌∙◌, subst, ⊎_elim, arith}
+use Rattle.std.proofs.lemmas.List.{get_or-replicate, get_or-set_same, get_or-set_other, set-set}
 use Rattle.std.proofs.lemmas.Bool.{cases_eq}
 use Rattle.std.specs.Option.{option_map}
-use Rattle.queue.specs.Ring.{items, entries, empty, first, rest, Sound}
+use Rattle.queue.specs.Ring.{items, empty, first, rest}
 use Rattle.queue.specs.declared.Queue.{Queue}
 use Rattle.machine.specs.declared.message.Message.{Message}
 use Rattle.machine.specs.Letters.{Letter, letter_of}
 use Rattle.kernel.specs.declared.channels.Channels.{Channels}
-use Rattle.kernel.specs.Rings.{letters_of, views, chans_of, Ring, Rings}
+use Rattle.kernel.specs.Rings.{letters_of, views, Ring, Rings}
 
 -- one ring changed is one list changed
 pub views-set : (qs : List Queue) (cs : List (List Message)) (i : ℕ) (q : Queue) (c : List Message) →

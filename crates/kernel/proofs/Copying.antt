@@ -1,5 +1,5 @@
 -- Bytes copied one after another, from an area and into it.
-use Rattle.std.proofs.Common.{◌≡◌, ℕ, zero, suc, ◌+◌, ◌-◌, ◌<◌, ◌≤◌, Bool, true, false, cond, ltb, List, [], ◌∷◌, ◌++◌, length, get_or, take, drop, set, Some, None, Option, sym, refl, ap, ◌∙◌, ⊎_elim, arith}
+use Rattle.std.proofs.Common.{◌≡◌, ℕ, ◌+◌, ◌-◌, ◌<◌, ◌≤◌, Bool, true, false, cond, ltb, List, [], ◌∷◌, ◌++◌, length, get_or, take, drop, set, Some, None, sym, ap, ◌∙◌, ⊎_elim, arith}
 use lib.Seq.{set-append_seam}
 use Rattle.std.proofs.lemmas.List.{take_more, take_more_set, take_at, take_all, take-append-drop, get_or-drop, length-take, length-drop, length-take-le, drop_more, append_assoc, length-append, set-append_right, set-set, set-get_or, get_or-set_same}
 use Rattle.std.proofs.lemmas.Bool.{cond-true, lt-ltb, cases_lt}

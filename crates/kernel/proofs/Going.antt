@@ -1,9 +1,8 @@
 -- A run goes on by one event.
 use Rattle.std.proofs.Common.{◌≡◌, ℕ, ◌+◌, ◌<◌, ◌≤◌, List, [], ◌∷◌, ◌++◌, length, get_or, take, drop, set, sym, refl, ap, ◌∙◌, ap₂, arith}
-use Rattle.std.proofs.lemmas.List.{drop_more, drop_all, drop-set-lt, take_all, take_more_set, map_push, append_assoc, length-set, append-nil}
+use Rattle.std.proofs.lemmas.List.{drop_more, drop_all, drop-set-lt, take_all, take_more_set, map_push, append_assoc, append-nil}
 use Rattle.vector.specs.declared.tables.Tables.{Tables}
 use Rattle.machine.specs.declared.event.Exchange.{Exchange}
-use Rattle.machine.specs.declared.event.Event.{Event}
 use Rattle.machine.specs.declared.answer.Answer.{Answer}
 use Rattle.machine.specs.Answers.{Reply, reply_of}
 use Rattle.machine.specs.State.{State}

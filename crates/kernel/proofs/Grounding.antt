@@ -1,5 +1,5 @@
 -- What a checked vector says of its tables, in the parts that a system keeps.
-use Rattle.std.proofs.Common.{ℕ, ◌<◌, arith}
+use Rattle.std.proofs.Common.{arith}
 use Rattle.vector.specs.declared.tables.Tables.{Tables}
 use Rattle.vector.specs.Sound.{Sound}
 use Rattle.vector.specs.Fair.{Fair}

@@ -1,4 +1,6 @@
 //! The core: it boots a checked vector on a board and takes events.
+#![tactic(auto)]
+
 mod areas;
 mod channels;
 mod copies;

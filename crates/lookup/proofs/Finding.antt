@@ -1,5 +1,5 @@
 -- A port found among those so far.
-use Rattle.std.proofs.Common.{◌≡◌, ℕ, ◌<◌, Bool, true, false, cond, List, get_or, IfSome, Some, None, Option, sym, ap, ◌∙◌, subst}
+use Rattle.std.proofs.Common.{◌≡◌, ℕ, ◌<◌, Bool, true, false, cond, List, get_or, IfSome, Some, None, Option, sym, subst}
 use Rattle.lookup.specs.Bounds.{Lined}
 
 abbrev pub Below : ℕ → Option ℕ → Type 0

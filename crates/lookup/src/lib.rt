@@ -1,4 +1,6 @@
 //! What the core asks of the vector's tables: who manages whom, whose port is which, and who is in whose circle.
+#![tactic(auto)]
+
 mod rounds;
 mod tables;
 

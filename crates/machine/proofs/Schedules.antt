@@ -20,7 +20,7 @@ use Rattle.machine.specs.declared.answer.Refusal.TheVariants.{SystemHalted}
 use Rattle.machine.specs.Answers.{Reply}
 use Rattle.machine.specs.Letters.{Letter}
 use Rattle.machine.specs.Partitions.{is_ready}
-use Rattle.machine.specs.Questions.{exists, is_system, plan, names, response, owner}
+use Rattle.machine.specs.Questions.{exists, is_system, names, response, owner}
 use Rattle.machine.specs.State.{Core, State, Effect, Out, refused, guard, area}
 use Rattle.machine.specs.Time.{Timed, timed, rolled, micro, micros}
 use Rattle.machine.specs.Faults as Faults

@@ -1,15 +1,14 @@
 -- The health monitor: its log, and what each response does.
-use Rattle.std.specs.Prelude.{ℕ, ◌-◌, Bool, true, false, cond, List, [], length, replicate, ℤ, pos, slice_index_or}
+use Rattle.std.specs.Prelude.{ℕ, ◌-◌, true, cond, [], replicate, pos, slice_index_or}
 use Rattle.queue.specs.Ring.{over}
 use Rattle.vector.specs.declared.tables.Tables.{Tables}
 use Rattle.vector.specs.declared.tables.Response.{Response}
 use Rattle.vector.specs.declared.tables.Action.{Action}
 use Rattle.vector.specs.declared.tables.Action.TheVariants.{Ignore, Signal, Suspend, Halt, WarmReset, ColdReset}
 use Rattle.vector.specs.Blank.{response0}
-use Rattle.machine.specs.declared.clock.Clock.{Clock}
 use Rattle.machine.specs.declared.log.Entry.{Entry}
 use Rattle.machine.specs.Partitions.{halted, suspended, fresh, signalled}
-use Rattle.machine.specs.Answers.{Reply, reply, action_number}
+use Rattle.machine.specs.Answers.{reply, action_number}
 use Rattle.machine.specs.Questions.{response}
 use Rattle.machine.specs.Time.{clock_of}
 use Rattle.machine.specs.State.{Core, Effect, keeps, clears, clears_all, Out, replied, with_clock, with_parts, with_chans, with_log, with_halted, modify}

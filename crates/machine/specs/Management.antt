@@ -1,12 +1,12 @@
 -- The calls on time, partitions and plans: 0 to 8.
-use Rattle.std.specs.Prelude.{ℕ, ◌+◌, ◌-◌, Bool, List, [], ◌∷◌, pos, ◌==◌, nat_lt, slice_index, slice_index_or, slice_set}
+use Rattle.std.specs.Prelude.{ℕ, ◌+◌, ◌-◌, List, [], ◌∷◌, pos, ◌==◌, nat_lt, slice_index, slice_index_or, slice_set}
 use Rattle.vector.specs.declared.tables.Tables.{Tables}
 use Rattle.vector.specs.declared.tables.Slot.{Slot}
 use Rattle.machine.specs.declared.answer.Refusal.TheVariants.{NoAction, InvalidParam, PermError}
 use Rattle.machine.specs.Answers.{reply, status_number}
 use Rattle.machine.specs.Partitions.{nobody, fresh, halted, suspended, resumed, idled, is_active, is_suspended}
 use Rattle.machine.specs.Questions.{exists, manages, is_system, plan, slots_of}
-use Rattle.machine.specs.State.{Core, Effect, clears, Out, answered, told, done, refused, guard, with_clock, with_parts, modify}
+use Rattle.machine.specs.State.{Core, clears, Out, answered, told, done, refused, guard, with_clock, with_parts, modify}
 use Rattle.machine.specs.Time.{clock_of}
 
 -- a call: tables, core, the caller's own area, the caller, the arguments

@@ -1,5 +1,5 @@
 -- The calls on ports and channels: 9 to 15.
-use Rattle.std.specs.Prelude.{ℕ, zero, suc, ◌+◌, Bool, true, false, cond, not, ◌&&◌, List, [], ◌∷◌, ◌++◌, length, take, drop, pos, Some, None, Option, ◌==◌, nat_le, nat_lt, slice_index_or}
+use Rattle.std.specs.Prelude.{ℕ, zero, suc, ◌+◌, Bool, true, false, cond, ◌&&◌, List, [], ◌∷◌, ◌++◌, length, take, drop, pos, Some, None, Option, ◌==◌, nat_le, nat_lt, slice_index_or}
 use Rattle.vector.specs.Names.{padded}
 use Rattle.vector.specs.declared.tables.Tables.{Tables}
 use Rattle.vector.specs.declared.tables.ChannelKind.{ChannelKind}

@@ -1,5 +1,5 @@
 -- The state of the machine, and what an event comes to.
-use Rattle.std.specs.Prelude.{ℕ, zero, suc, Bool, true, false, List, [], ◌∷◌, length, replicate, ℤ, pos, slice_index_or, slice_set}
+use Rattle.std.specs.Prelude.{ℕ, zero, suc, Bool, true, false, List, [], length, replicate, pos, slice_index_or, slice_set}
 use Rattle.machine.specs.declared.partition.Partition.{Partition}
 use Rattle.machine.specs.declared.clock.Clock.{Clock}
 use Rattle.machine.specs.declared.log.Entry.{Entry}

@@ -1,12 +1,12 @@
 -- The machine: what one event does, and how a system boots.
-use Rattle.std.specs.Prelude.{ℕ, zero, suc, ◌+◌, ◌-◌, Bool, true, false, cond, not, ◌&&◌, ◌||◌, List, [], ◌∷◌, length, replicate, pos, ◌==◌, nat_le, nat_lt, slice_index, slice_index_or, slice_set}
+use Rattle.std.specs.Prelude.{ℕ, zero, suc, ◌-◌, Bool, true, not, ◌&&◌, List, [], length, replicate, pos, ◌==◌, nat_le, nat_lt, slice_index, slice_index_or, slice_set}
 use Rattle.vector.specs.declared.tables.Tables.{Tables}
 use Rattle.machine.specs.declared.event.Event.{Event}
 use Rattle.machine.specs.declared.event.Event.TheVariants.{Tick, Call, Load, Store, Fault, Line, SystemFault}
 use Rattle.machine.specs.declared.answer.Refusal.TheVariants.{InvalidParam, OpNotAllowed, NotOnProcessor, SystemHalted}
 use Rattle.machine.specs.Partitions.{nobody, fresh, is_ready}
 use Rattle.machine.specs.Questions.{exists, row, plan, slots_of, holder, names}
-use Rattle.machine.specs.State.{Core, State, Effect, keeps, writes, Out, Result, answered, done, refused, guard, with_parts, with_clock, area, settle}
+use Rattle.machine.specs.State.{Core, State, writes, Out, Result, answered, done, refused, guard, with_parts, with_clock, area, settle}
 use Rattle.machine.specs.Answers.{reply}
 use Rattle.machine.specs.Time.{Timed, timed, clock_of, micros}
 use Rattle.machine.specs.Faults.{faulted, strayed, system_faulted}

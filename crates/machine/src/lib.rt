@@ -1,4 +1,6 @@
 //! The machine: its vocabulary in plain types, and in specs/ its rules and what is proved of them.
+#![tactic(auto)]
+
 ghost use Rattle.machine.specs.Examples.{ExamplesStand};
 
 pub mod answer;

@@ -1,5 +1,5 @@
 -- A queue is the list of its entries, the oldest first; in memory they lie in a ring of cells.
-use Rattle.std.specs.Prelude.{◌≡◌, ℕ, ◌+◌, ◌-◌, ◌<◌, ◌≤◌, cond, List, [], ◌∷◌, ◌++◌, length, take, drop, Some, None, Option, ◌==◌, nat_lt}
+use Rattle.std.specs.Prelude.{ℕ, ◌+◌, ◌-◌, ◌<◌, ◌≤◌, cond, List, [], ◌∷◌, ◌++◌, length, take, drop, Some, None, Option, ◌==◌, nat_lt}
 use Rattle.queue.specs.declared.Queue.{Queue}
 
 -- the entries in the cells: n of them from the cell h on, round the end

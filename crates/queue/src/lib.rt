@@ -1,4 +1,6 @@
 //! A queue over cells that its callers lend, for every kind of entry.
+#![tactic(auto)]
+
 ghost use Rattle.std.specs.Prelude.{◌≡◌, ℕ, ◌<◌, ◌≤◌, [], ◌∷◌, ◌++◌, length, nat_lt};
 ghost use Rattle.queue.specs.Ring.{entries, empty, first, rest, pushed, over, next, spot, Sound};
 

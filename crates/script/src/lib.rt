@@ -1,4 +1,6 @@
 //! The script format: a vector and a history read from bytes, and the text of an answer.
+#![tactic(auto)]
+
 ghost use Rattle.script.specs.Reading.{Reads};
 
 use crate::error::ScriptError;

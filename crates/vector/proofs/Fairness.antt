@@ -1,9 +1,9 @@
 -- What the core rests on follows from the laws of a taken vector.
-use Rattle.std.proofs.Common.{◌≡◌, ℕ, zero, suc, ◌+◌, ◌<◌, ◌≤◌, Bool, true, false, cond, eqb, List, [], ◌∷◌, length, get_or, take, sym, refl, ap, ◌∙◌, subst, ⊎_elim, arith}
+use Rattle.std.proofs.Common.{◌≡◌, ℕ, zero, suc, ◌<◌, ◌≤◌, true, cond, eqb, List, [], ◌∷◌, length, get_or, take, sym, ap, ◌∙◌, subst, ⊎_elim, arith}
 use Rattle.std.proofs.lemmas.List.{get_or-take, length-take}
 use Rattle.std.proofs.lemmas.Bool.{cases_lt, cond-true, eq-eqb}
 use Rattle.vector.specs.Blank.{port0}
-use Rattle.vector.specs.Fair.{Share, AllWithin, Connected, OneSource, OneDestination, Fair}
+use Rattle.vector.specs.Fair.{AllWithin, Connected, OneSource, OneDestination, Fair}
 use Rattle.vector.specs.Joins.{is_queuing}
 use Rattle.vector.specs.Laws as laws
 use Rattle.vector.specs.Laws.{ports_of, Lawful}
@@ -11,7 +11,7 @@ use Rattle.vector.specs.Out.{fine}
 use Rattle.vector.specs.Reading.{reading, gathered, takes, tables}
 use Rattle.vector.specs.declared.sofar.Sofar.{Sofar}
 use Rattle.vector.specs.declared.tables.ChannelKind.{ChannelKind}
-use Rattle.vector.specs.declared.tables.ChannelKind.TheVariants.{Sampling, Queuing}
+use Rattle.vector.specs.declared.tables.ChannelKind.TheVariants.{Queuing}
 use Rattle.vector.specs.declared.tables.Direction.{Direction}
 use Rattle.vector.specs.declared.tables.Direction.TheVariants.{Source, Destination}
 use Rattle.vector.specs.declared.tables.Port.{Port}

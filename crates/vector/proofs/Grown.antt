@@ -1,5 +1,5 @@
 -- A vector that is taken is the vector of a valid configuration: the configuration grows with each record.
-use Rattle.std.proofs.Common.{◌≡◌, ℕ, ◌+◌, ◌-◌, ◌≤◌, true, false, List, [], ◌∷◌, ◌++◌, length, get_or, Some, Option, sym, refl, ap, ◌∙◌, subst, arith}
+use Rattle.std.proofs.Common.{◌≡◌, ℕ, ◌-◌, ◌≤◌, true, false, List, [], ◌∷◌, ◌++◌, length, get_or, Some, Option, sym, refl, ap, ◌∙◌, subst, arith}
 use Rattle.std.proofs.lemmas.Bool.{and_parts, leb-true, false≢true, both_ways}
 use Rattle.vector.specs.Bodies.{Said, NameAt, next_direction, header, partition, plan, slot, channel, port, ipvi, line, action}
 use Rattle.vector.specs.Blank.{channel0}

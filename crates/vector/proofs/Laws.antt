@@ -1,5 +1,5 @@
 -- What every vector that is taken says.
-use Rattle.std.proofs.Common.{◌≡◌, ℕ, ◌+◌, ◌-◌, ◌*◌, ◌/◌, ◌%◌, ◌^◌, ◌<◌, ◌≤◌, true, false, ◌&&◌, eqb, ◌⊎◌, List, is_some, Some, None, Option, sym, refl, ap, subst, inl, inr, arith}
+use Rattle.std.proofs.Common.{◌≡◌, ℕ, ◌+◌, ◌-◌, ◌/◌, ◌%◌, ◌^◌, ◌<◌, ◌≤◌, true, false, ◌&&◌, eqb, List, is_some, Some, None, Option, sym, refl, ap, subst, inl, inr, arith}
 use Rattle.std.proofs.lemmas.Nat.{pow_pos, pow_below, div_below}
 use Rattle.std.proofs.lemmas.Bool.{and_parts, eqb-true, false≢true, cases_lt, cases_eq, both_ways}
 use Rattle.vector.specs.Out.{Out, fine, bad, then}
@@ -12,7 +12,6 @@ use Rattle.vector.specs.Turns.{ends, has_partitions, has_plans, has_ports, settl
 use Rattle.vector.specs.Rooms.{Room}
 use Rattle.vector.specs.Reading.{reading, gathered, verdict_of, taken, refused, takes, tables}
 use Rattle.vector.specs.declared.record.Kind.{Kind}
-use Rattle.vector.specs.declared.record.Kind.TheVariants.{Plan}
 use Rattle.vector.specs.declared.sofar.Sofar.{Sofar}
 use Rattle.vector.specs.declared.tables.Plan as plans
 use Rattle.vector.specs.declared.tables.Tables.{Tables}

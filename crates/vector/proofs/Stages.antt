@@ -1,8 +1,8 @@
 -- A configuration record by record: its stages, what the reader's state shows of each, and the rule of the next record.
-use Rattle.std.proofs.Common.{◌≡◌, ℕ, ◌+◌, ◌-◌, ◌<◌, ◌≤◌, Bool, true, false, cond, ◌&&◌, ◌||◌, eqb, ltb, leb, List, [], ◌∷◌, ◌++◌, length, get_or, take, Some, sym, refl, ap, ◌∙◌, subst, ap₂, inl, inr, arith, length-append}
+use Rattle.std.proofs.Common.{◌≡◌, ℕ, ◌+◌, ◌-◌, ◌<◌, ◌≤◌, Bool, true, false, cond, ◌&&◌, ◌||◌, eqb, ltb, leb, List, [], ◌∷◌, length, get_or, take, Some, sym, refl, ap, ◌∙◌, subst, ap₂, inl, inr, arith, length-append}
 use Rattle.std.proofs.lemmas.Bool.{and_parts, and_from, and_cases, or_parts, or_from, or_left, or_right, eq-eqb, ne_eqb, ltb-true, lt-ltb, le-leb, leb-false, lt-leb, cond-true, cond-false, both_ways}
 use Rattle.vector.specs.Blank.{channel0}
-use Rattle.vector.specs.Bodies.{NameAt, partition, plan, port, line, action, next_direction}
+use Rattle.vector.specs.Bodies.{NameAt, partition, plan, port, action, next_direction}
 use Rattle.vector.specs.Config.{PartitionIn, PlanIn, PortIn, ChannelIn, LinkIn, LineIn, ActionIn, Config, Each, PartitionRule, SlotRule, PlanRule, ports_in, is_of, is_called, PortRule, ChannelRule, LinkRule, LineRule, ActionRule, HasPorts, direction_after, placeless, said_partition, said_slot, said_port, said_channel, said_link, said_line, said_action}
 use Rattle.vector.specs.Joins.{is_queuing, is_full, InScope}
 use Rattle.vector.specs.Names.{any, padded, has_name, clash}

@@ -1,9 +1,6 @@
 -- Names as the code goes over them, byte by byte and row by row.
-use Rattle.std.proofs.Common.{◌≡◌, ℕ, ◌+◌, ◌<◌, ◌≤◌, Bool, false, ◌||◌, List, [], ◌∷◌, ◌++◌, length, get_or, take, drop, set, replicate, Decides, ap, add-one, arith, drop-cons}
-use Rattle.std.specs.Str.{bytes_eq}
-use Rattle.std.proofs.lemmas.Slice.Eq.{slice_eq-Decides, bytes_eq-Decides}
+use Rattle.std.proofs.Common.{◌≡◌, ℕ, ◌+◌, ◌<◌, ◌≤◌, Bool, false, ◌||◌, List, [], ◌∷◌, ◌++◌, length, get_or, take, drop, set, replicate, ap, add-one, arith, drop-cons}
 use Rattle.std.proofs.lemmas.List.{drop_all, take_more, drop_more, set_at, append_assoc, length-take-le, length-replicate, take_all}
-use Rattle.std.proofs.lemmas.Bool.Decides.{same_from_decides, Decides-eqb}
 use Rattle.vector.specs.Names.{any}
 
 -- the first i bytes of a name, and zeros behind them

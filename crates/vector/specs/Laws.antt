@@ -7,7 +7,6 @@ use Rattle.vector.specs.Out.{fine}
 use Rattle.vector.specs.Points.{Point, Step, step}
 use Rattle.vector.specs.Rows.{partition_at, slot_end}
 use Rattle.vector.specs.Joins.{is_queuing}
-use Rattle.vector.specs.Reading.{takes, tables}
 use Rattle.vector.specs.declared.tables.Channel.{Channel}
 use Rattle.vector.specs.declared.tables.Direction.TheVariants.{Source, Destination}
 use Rattle.vector.specs.declared.tables.Plan.{Plan}

@@ -1,4 +1,6 @@
 //! The reader of configuration vectors.
+#![tactic(auto)]
+
 ghost use Rattle.std.specs.Prelude.{◌≡◌};
 ghost use Rattle.vector.specs.Config.{TakenIsValid};
 ghost use Rattle.vector.specs.Out.{out};

@@ -1,4 +1,6 @@
 //! Runs a script on each board, and prints what each event is answered.
+#![tactic(auto)]
+
 ghost use Rattle.std.specs.Prelude.{◌≡◌, true};
 ghost use Rattle.vector.specs.Reading.{takes};
 

@@ -1,4 +1,4 @@
-use Rattle.std.proofs.Common.{◌≡◌, length, take}
+use Rattle.std.proofs.Common.{◌≡◌, take}
 use Rattle.machine.specs.State.{area}
 use Rattle.machine.specs.Ports.{part}
 use Rattle.kernel.proofs.copies.load_into.Given as goal

@@ -1,4 +1,4 @@
-use Rattle.std.proofs.Common.{◌≡◌, ◌+◌, ◌≤◌, get_or, arith}
+use Rattle.std.proofs.Common.{◌+◌, ◌≤◌, get_or, arith}
 use Rattle.vector.specs.Blank.{slot0}
 use Rattle.kernel.proofs.Gapping.{gaps_more, gaps_end}
 use Rattle.kernel.proofs.schedule.slotless.Goals as goal

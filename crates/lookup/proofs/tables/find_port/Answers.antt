@@ -1,4 +1,4 @@
-use Rattle.std.proofs.Common.{◌≡◌, ℕ, Bool, cond, Some, Option, refl, ap, ◌∙◌, ap₂, add-one, arith}
+use Rattle.std.proofs.Common.{ℕ, Bool, cond, Some, Option, refl, ap, ◌∙◌, ap₂, add-one, arith}
 use Rattle.machine.specs.Questions.{named}
 use Rattle.lookup.proofs.Finding.{picked}
 use Rattle.lookup.proofs.tables.find_port.Goals as goal

@@ -1,4 +1,4 @@
-use Rattle.std.proofs.Common.{length, refl, ap, ◌∙◌}
+use Rattle.std.proofs.Common.{refl}
 use Rattle.kernel.proofs.Channelling.{fresh_rings, fresh-views}
 use Rattle.kernel.proofs.channels.Channels.new.Goals as goal
 

@@ -1,4 +1,4 @@
-use Rattle.std.proofs.Common.{sym, refl, arith}
+use Rattle.std.proofs.Common.{refl, arith}
 use Rattle.queue.proofs.Rings.{no_items}
 use Rattle.kernel.proofs.log.Log.new.Goals as goal
 
