@@ -104,7 +104,7 @@ module _ (s : Sofar) where
       let w = f.wires in
       record {
         some = λ _. x;
-        partitions = record { size = f.partitions.size; differ = f.partitions.differ; links = λ p i m e. absurd (let o = (f.partitions.links p i m e).0 in omega arith) };
+        partitions = record { size = f.partitions.size; differ = f.partitions.differ; sized = f.partitions.sized; links = λ p i m e. absurd (let o = (f.partitions.links p i m e).0 in omega arith) };
         plans = record { size = f.plans.size; each = λ i h. absurd (let o = r.1.1 in omega arith) };
         begun = λ i h. absurd (let o = r.1.1 in omega arith);
         wires = record { rows = w.rows; size = w.size; few = w.few; sound = w.sound; paired = w.paired; queues = w.queues; counted = w.counted; belong = λ i h. absurd (let o = (w.belong i h).0 in omega arith); first = w.first; names = w.names; sources = w.sources };
@@ -119,7 +119,7 @@ fit-kept s k (partition c z n) r i x j f =
     let a : s.tables.partitions.count < s.partitions = ltb-true _ _ w.1 in
     record {
       some = still s Partition Partition refl w.0 f;
-      partitions = fit-partition s.partitions s.tables.partitions (row_of c z (padded n.bytes)) f.partitions (omega (arith, r.0.0.0)) j refl;
+      partitions = fit-partition s.partitions s.tables.partitions (row_of c z (padded n.bytes)) f.partitions (omega (arith, r.0.0.0)) j refl x.1.0;
       plans = f.plans;
       begun = not-after-plan Partition s.last _ s.tables.plans refl w.0 f.begun;
       wires = f.wires;
@@ -217,6 +217,7 @@ fit-nothing = record {
   partitions = record {
     size = refl;
     differ = λ i j l h. absurd (omega arith);
+    sized = λ i h. absurd (omega arith);
     links = λ p i m. all_alike (λ (r : PartitionRow). get_or r.links i None ≡ Some m → (p < 0) × Mask 0 p m) 8 p (row_of Standard 0 no_name) row0
         (all_alike (λ (o : Option ℕ). o ≡ Some m → (p < 0) × Mask 0 p m) 8 i None None (no_link p m) (no_link p m)) (no_link p m);
   };

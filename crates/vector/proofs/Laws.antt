@@ -4,7 +4,7 @@ use Rattle.std.proofs.lemmas.Nat.{pow_pos, pow_below, div_below}
 use Rattle.std.proofs.lemmas.Bool.{and_parts, eqb-true, false≢true, cases_lt, cases_eq, both_ways}
 use Rattle.vector.specs.Out.{Out, fine, bad, then}
 use Rattle.vector.specs.Fields.{has_bit}
-use Rattle.vector.specs.Laws.{channel_at, plan_at, SlotInPlace, Lawful}
+use Rattle.vector.specs.Laws.{channel_at, plan_at, SlotInPlace, AreasSized, Lawful}
 use Rattle.vector.specs.Ranges.{Mask}
 use Rattle.vector.specs.Rows.{blank}
 use Rattle.vector.specs.Sound.{SoundPlan, Sound}
@@ -119,3 +119,9 @@ pub gathered-lawful : (bs : List ℕ) (t : Tables) → gathered bs ≡ fine t �
 gathered-lawful bs t e =
     let s = then-fine (reading bs) (λ s. fine s.tables) t e in
     same-fine Lawful s.0.tables t s.2 (read-lawful bs s.0 s.1).1
+
+-- the tables that a vector gives have areas of 1 to 1,024 bytes
+pub gathered-sized : (bs : List ℕ) (t : Tables) → gathered bs ≡ fine t → AreasSized t
+gathered-sized bs t e =
+    let s = then-fine (reading bs) (λ s. fine s.tables) t e in
+    same-fine AreasSized s.0.tables t s.2 (taken-keeps Fit fit-kept fit-nothing bs s.0 s.1).0.1.partitions.sized

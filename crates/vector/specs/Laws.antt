@@ -5,6 +5,7 @@ use Rattle.vector.specs.Encoding.{Bytes, bytes_of}
 use Rattle.vector.specs.Fields.{has_bit}
 use Rattle.vector.specs.Out.{fine}
 use Rattle.vector.specs.Points.{Point, Step, step}
+use Rattle.vector.specs.Ranges.{In}
 use Rattle.vector.specs.Rows.{partition_at, slot_end}
 use Rattle.vector.specs.Joins.{is_queuing}
 use Rattle.vector.specs.declared.tables.Channel.{Channel}
@@ -29,6 +30,10 @@ port_at i t = slice_index_or t.ports.rows i port0
 -- no two partitions have one name
 abbrev pub NamesDiffer : Tables → Type 0
 NamesDiffer t = (i j : ℕ) → i < j → j < t.partitions.count → (partition_at i t).name ≢ (partition_at j t).name
+
+-- each partition's area has 1 to 1,024 bytes
+abbrev pub AreasSized : Tables → Type 0
+AreasSized t = (i : ℕ) → i < t.partitions.count → In 1 1024 (partition_at i t).size
 
 -- slot j of a plan is of one of n partitions, takes some time, begins at or after the end of each slot before it, and
 -- ends within the frame

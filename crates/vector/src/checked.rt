@@ -3,7 +3,7 @@ ghost use Rattle.std.specs.Prelude.{◌≡◌, true};
 ghost use Rattle.vector.specs.Reading.{takes, tables};
 ghost use Rattle.vector.specs.Sound.{Sound};
 ghost use Rattle.vector.specs.Fair.{Fair};
-ghost use Rattle.vector.specs.Laws.{Lawful};
+ghost use Rattle.vector.specs.Laws.{AreasSized, Lawful};
 
 use crate::scan::gather;
 use crate::tables::Tables;
@@ -27,6 +27,7 @@ impl<'a> Checked<'a> {
         ensures value { result ≡ tables self.entry.bytes.now }
         ensures sound { Sound result }
         ensures lawful { Lawful result }
+        ensures areas { AreasSized result }
         ensures fair { Fair result }
     {
         let Checked { bytes } = self;

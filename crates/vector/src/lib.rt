@@ -3,6 +3,7 @@
 
 ghost use Rattle.std.specs.Prelude.{◌≡◌};
 ghost use Rattle.vector.specs.Config.{TakenIsValid};
+ghost use Rattle.vector.specs.Laws.{RecordsWritten};
 ghost use Rattle.vector.specs.Out.{out};
 ghost use Rattle.vector.specs.Reasons.{reason};
 ghost use Rattle.vector.specs.Reading.{verdict, verdict_of, gathered};
@@ -30,10 +31,12 @@ pub(crate) mod sofar;
 pub mod tables;
 pub(crate) mod turn;
 
-/// Whether the bytes are a vector that is taken: it is if and only if it is the vector of a valid configuration.
+/// Whether the bytes are a vector that is taken: it is if and only if it is the vector of a valid configuration. What is shown of
+/// a vector's records gives back its bytes.
 pub fn check(bytes: &[u8]) -> Result<(), Refusal>
     ensures answer { verdict_of (out reason (λ u. u) result) ≡ verdict bytes.now }
     ensures exact { TakenIsValid }
+    ensures written { RecordsWritten }
 {
     let _ = gather(bytes)?;
     Ok(())
