@@ -1,5 +1,6 @@
 // What each event does.
 ghost use Rattle.std.specs.Prelude.{◌≡◌, ℕ, ◌<◌, ◌≤◌, true, IfSome, if◌then◌else◌, Some, None};
+ghost use Rattle.board.specs.Areas.{loaded};
 ghost use Rattle.vector.specs.Reading.{tables as tables_of};
 ghost use Rattle.machine.specs.Answers.{reply_of};
 ghost use Rattle.machine.specs.Partitions.{bit};
@@ -192,6 +193,13 @@ impl<B: Board> System<B> {
         ensures least { IfSome result (λ m. Circle self.now.core.tables partition (bit m)) }
     {
         circle(&self.core.tables, partition)
+    }
+
+    /// The byte at a place of a partition's area, for who looks at the board when the events are over; none outside the area.
+    pub fn byte(&self, partition: u8, offset: usize) -> Option<u8>
+        ensures { result ≡ loaded (B.areas self.now.board) partition offset }
+    {
+        self.board.load(usize::from(partition), offset)
     }
 
     /// Decides what an event does.
