@@ -15,7 +15,7 @@ pub mod Rooms
 pub mod Reading
 pub mod Points
 pub mod Encoding
+pub mod Fair
 pub mod Laws
 pub mod Examples
-pub mod Fair
 pub mod Config

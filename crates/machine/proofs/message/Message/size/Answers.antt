@@ -3,4 +3,4 @@ use Rattle.std.proofs.lemmas.List.{length-take}
 use Rattle.machine.proofs.message.Message.size.Goals as goal
 
 pub returns : goal.returns
-returns c = omega (arith, c.min.ensures, length-take c.args.self.now.length c.args.self.now.bytes)
+returns c = omega (arith, length-take c.args.self.now.length c.args.self.now.bytes)
