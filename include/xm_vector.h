@@ -1,6 +1,6 @@
 /* The vector check of the partitioning core, for C.
  *
- * Link with libvector.a (`rt staticlib vector` builds target/staticlib/libvector.a); it needs the C library only.
+ * Link with libvector.a (`tools/archive vector` builds target/staticlib/libvector.a); it needs the C library only.
  * The bytes are read and neither kept nor changed. A null pointer is not a vector: pass the length 0 with any valid pointer.
  */
 #ifndef XM_VECTOR_H

@@ -27,7 +27,7 @@ KINDS = dict(enumerate(("HEADER", "PARTITION", "PLAN", "SLOT", "CHANNEL", "PORT"
 
 def build():
     """The example program, built against the static library."""
-    subprocess.run(["rt", "staticlib", "vector"], cwd=ROOT, check=True, stdout=subprocess.DEVNULL)
+    subprocess.run([ROOT / "tools" / "archive", "vector"], cwd=ROOT, check=True, stdout=subprocess.DEVNULL)
     subprocess.run(["make", "-s", "-B", "-C", str(ROOT / "examples" / "c"), "CC=gcc"], check=True)
     return ROOT / "examples" / "c" / "check_vector"
 
@@ -48,19 +48,13 @@ def record_at(vector, place):
 
 
 def model_says(vector):
-    """The verdict's number, and the lines that the example must print, the first without its words."""
+    """What the example must print, up to the words, and its line on the record."""
     try:
         check(vector)
     except VectorRefused as refusal:
         number, place = int(refusal.number), refusal.place
-        return number, [f"refused {number} at byte {place}", record_at(vector, place)]
-    return 0, ["taken"]
-
-
-def without_words(printed):
-    """The lines of the example, the first without what stands behind its colon."""
-    first, *others = printed.splitlines() or [""]
-    return [first.partition(":")[0], *others]
+        return number, f"refused {number} at byte {place}:", [record_at(vector, place)]
+    return 0, "taken", []
 
 
 def vectors():
@@ -88,9 +82,10 @@ def main():
                 break
             path.write_bytes(vector)
             run = subprocess.run([program, path], capture_output=True, text=True)
-            number, says = model_says(vector)
+            number, says, record = model_says(vector)
             reached[number] += 1
-            right = without_words(run.stdout) == says and run.returncode == (0 if number == 0 else 1)
+            right = run.stdout.startswith(says) and run.returncode == (0 if number == 0 else 1)
+            right = right and run.stdout.splitlines()[1:] == record
             passed, failed = passed + right, failed + (not right)
             if not right:
                 print(f"{vector.hex()}: the model says {says!r}, the program {run.stdout!r}")

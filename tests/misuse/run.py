@@ -23,7 +23,7 @@ def refused(sample, copy):
     if text.count(old) != 1:
         return f"its old text stands {text.count(old)} times in {path}"
     source.write_text(text.replace(old, new))
-    check = subprocess.run(["rt", "check", crate], cwd=copy, capture_output=True, text=True)
+    check = subprocess.run(["rt", "check"], cwd=copy / "crates" / crate, capture_output=True, text=True)
     source.write_text(text)
     if check.returncode == 0:
         return "the check took it"
@@ -36,12 +36,8 @@ def main():
     passed = failed = 0
     with tempfile.TemporaryDirectory() as folder:
         copy = pathlib.Path(folder)
-        for part in ("crates.txt", "crates", "target"):
-            source = ROOT / part
-            if source.is_dir():
-                shutil.copytree(source, copy / part)
-            elif source.exists():
-                shutil.copy(source, copy / part)
+        shutil.copy(ROOT / "crates.txt", copy)
+        shutil.copytree(ROOT / "crates", copy / "crates", ignore=shutil.ignore_patterns("out"))
         for sample in sorted(pathlib.Path(__file__).parent.glob("*.sample")):
             why = refused(sample, copy)
             print(f"misuse {sample.stem}: {why or 'refused, as it must be'}", flush=True)

@@ -1,9 +1,9 @@
 -- A ring of cells, seen as the list of its entries.
-use Rattle.std.proofs.Common.{◌≡◌, ℕ, ◌+◌, ◌-◌, ◌<◌, ◌≤◌, true, false, eqb, ltb, List, [], ◌∷◌, ◌++◌, length, get_or, take, drop, set, sym, refl, ap, arith, drop-set-lt}
+use Rattle.std.proofs.Common.{◌≡◌, ◌∙◌, Some, ℕ, ◌+◌, ◌-◌, ◌<◌, ◌≤◌, true, false, eqb, ltb, List, [], ◌∷◌, ◌++◌, length, get_or, take, drop, set, sym, refl, ap, arith, drop-set-lt}
 use lib.Seq.{take-set-lt}
 use Rattle.std.proofs.lemmas.List.{places, same_lists, length-take, length-drop, length-append, set-append_left, set-append_right, take_more_set, drop-set-add, take-set-le}
 use Rattle.std.proofs.lemmas.Bool.{eqb-true, eqb-false, cond_both, cond-true, cond-false, eq-eqb, ne_eqb, lt-ltb, le-ltb, ltb-true, ltb-false}
-use Rattle.queue.specs.Ring.{items, rest, pushed, over, next, spot}
+use Rattle.queue.specs.Ring.{items, first, rest, pushed, over, next, spot}
 
 module _ {X : Type 0} where
   pub length-items : (h n : ℕ) (cells : List X) → n ≤ length cells → length (items h n cells) ≡ n
@@ -57,6 +57,10 @@ module _ {X : Type 0} where
       (λ e. pop_round h n cells d (eqb-true (h + 1) (length cells) e) m r)
       (λ e. let z = eqb-false (h + 1) (length cells) e in pop_flat h n cells d (omega arith) m r)
 
+  -- so what stands in the cell of the head is the oldest
+  pub oldest_is : (h n : ℕ) (cells : List X) (x : X) → h < length cells → 0 < n → n ≤ length cells → x ≡ get_or cells h x → Some x ≡ first (items h n cells)
+  oldest_is h n cells x l m r e = ap Some e ∙ sym (ap first (pop_one h n cells x l m r))
+
   length_rest : (xs : List X) → length (rest xs) ≡ length xs - 1
   length_rest [] = refl
   length_rest (x ∷ xs) = omega arith
@@ -71,6 +75,11 @@ module _ {X : Type 0} where
 
   pub over_full : (n : ℕ) (xs : List X) (x : X) → length xs ≡ n → over n xs x ≡ rest xs ++ x ∷ []
   over_full n xs x e = cond-true _ _ _ (eq-eqb (length xs) n e)
+
+  -- a push into a ring that was full, after a pop
+  pub over_popped : (h n k m : ℕ) (cells : List X) (zs : List X) (x : X) → n ≡ length cells → items k m cells ≡ rest (items h n cells) →
+      zs ≡ items k m cells ++ x ∷ [] → zs ≡ over (length cells) (items h n cells) x
+  over_popped h n k m cells zs x f e z = z ∙ ap (λ l. l ++ x ∷ []) e ∙ sym (over_full (length cells) (items h n cells) x (length-items h n cells (omega arith) ∙ f))
 
   pub over-room : (n : ℕ) (xs : List X) (x : X) → (length xs ≡ n → ⊥) → over n xs x ≡ xs ++ x ∷ []
   over-room n xs x e = cond-false _ _ _ (ne_eqb (length xs) n e)

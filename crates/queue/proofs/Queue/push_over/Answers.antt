@@ -1,26 +1,13 @@
-use Rattle.std.proofs.Common.{[], ◌∷◌, ◌++◌, length, sym, ap, ◌∙◌, arith}
+use Rattle.std.proofs.Common.{[], ◌∷◌, ◌++◌, length, sym, ap, ◌∙◌, arith, rules}
 use Rattle.queue.specs.Ring.{items}
-use Rattle.queue.proofs.Rings.{room, over_full, over-room, length-items}
+use Rattle.queue.proofs.Rings.{room, over_popped, over-room, length-items}
 use Rattle.queue.proofs.Queue.push_over.Goals as goal
 
 pub put-requires : goal.put-requires
-put-requires g c =
-    record {
-      sound = c.pop.ensures.sound;
-      room = room _ _ _ _ _ c.requires.sound.0 c.if-self-cells.true c.pop.ensures.sound.1 c.pop.ensures.left;
-    }
+put-requires g c = search (rules, room)
 
 pub returns-then-self-cells : goal.returns-then-self-cells
-returns-then-self-cells g c =
-    let q = c.args.self.now in
-    let n = length-items q.head q.count c.args.cells.now c.requires.sound.1 in
-    record {
-      sound = c.put.ensures.sound;
-      width = c.put.ensures.width;
-      is =
-          c.put.ensures.is ∙ ap (λ z. z ++ c.args.x ∷ []) c.pop.ensures.left
-          ∙ sym (over_full (length c.args.cells.now) (items q.head q.count c.args.cells.now) c.args.x (omega (arith, n, c.if-self-cells.true)));
-    }
+returns-then-self-cells g c = search (rules, over_popped)
 
 pub returns : goal.returns
 returns g c =
