@@ -5,6 +5,7 @@ usage: python3 tools/respell.py        at the top of the repository, once, after
 
 Words are in snake case (`fenceOf` is `fence_of`, `with-parts` is `with_parts`); a dash stays only where it joins names
 (`length-zeroed`, since `length` and `zeroed` are names); a fact or a type is in camel case (`ExamplesStand`).
+A member of a bound is named by the bound (`B.areas`).
 Names from src/ keep their spelling, and so do the names that Rattle makes. What would fall together is named, and nothing is written.
 A lemma that would have the name of a definition gets `_lem`. A definition may have the name of a function of src/: clauses see the one, code the other.
 """
@@ -64,6 +65,17 @@ def imported(text):
     return found
 
 
+def by_bound(text):
+    """The clauses of functions over `B: Board`, with the member `areas` named by the bound."""
+    lines, open_clause = [], False
+    for line in text.split("\n"):
+        if re.match(r"\s*(requires|ensures)\b", line) or open_clause:
+            line = re.sub(r"(?<![\w.])areas\b", "B.areas", line)
+            open_clause = line.count("{") > line.count("}")
+        lines.append(line)
+    return "\n".join(lines)
+
+
 def main():
     antt = list(files("crates", ".antt"))
     rt = list(files("crates", ".rt", ".edit"))
@@ -107,6 +119,8 @@ def main():
             return turned[n]
 
         new = WORD.sub(turn, text) if p not in docs else re.sub(r"`[^`\n]+`", lambda q: WORD.sub(turn, q[0]), text)
+        if p.endswith(".rt") and "<B: Board" in text:
+            new = by_bound(new)
         if new != text:
             with open(p, "w", encoding="utf-8") as f:
                 f.write(new)
