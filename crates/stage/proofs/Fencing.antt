@@ -1,5 +1,6 @@
 -- The fences of a script are sound, and hold zeros.
-use Rattle.std.proofs.Common.{◌≡◌, ℕ, ◌-◌, ◌*◌, ◌<◌, ◌≤◌, true, List, [], take, replicate, ap, ◌∙◌, arith}
+use Rattle.std.proofs.Common.{◌≡◌, ℕ, ◌-◌, ◌*◌, ◌<◌, ◌≤◌, true, List, [], map, take, replicate, refl, ap, ◌∙◌, arith}
+use Rattle.std.specs.List.{range_with_len}
 use lib.ListN.{length-map}
 use Rattle.std.proofs.lemmas.List.FromFn.{length-map-range_with_len, get_or-map-range_with_len, fill_by_all}
 use Rattle.std.proofs.lemmas.List.{get_or-map, take-replicate, drop-replicate}
@@ -10,48 +11,60 @@ use Rattle.vector.specs.Laws.{AreasSized}
 use Rattle.boards.specs.declared.fence.Fence.{Fence}
 use Rattle.boards.specs.Below.{all_below}
 use Rattle.boards.specs.Fences.{nowhere, fence_of, part, parts, within, apart, apart_at, good_fence, sound_fences}
-use Rattle.stage.specs.Layouts.{size_at, zeros_at, zeroed, fence_at, fences_of}
+use Rattle.stage.specs.Layouts.{size_at, sizes_of, zeros_at, zeroed, fence_at, fences_of}
 use Rattle.stage.proofs.Zeros.{all-below, size-most}
 
 module _ (t : Tables) (s : AreasSized t) (n : ℕ) (room : 8192 ≤ n) where
-  fence_at_lem : (i : ℕ) → i < 8 → fence_of (fences_of t) i ≡ fence_at t i
-  fence_at_lem i h = get_or-map-range_with_len (fence_at t) 0 8 i i nowhere h (omega arith)
+  abbrev fence-at : ℕ → Fence
+  fence-at i = fence_at i (size_at t i)
 
-  lies_within : (i : ℕ) → i < 8 → within n (fence_at t i) ≡ true
+  -- the fences, one for each number below eight
+  abbrev counted : List Fence
+  counted = map fence-at (range_with_len 0 8)
+
+  counted-is : fences_of (sizes_of t) ≡ counted
+  counted-is = refl
+
+  fence-lem : (i : ℕ) → i < 8 → fence_of counted i ≡ fence-at i
+  fence-lem i h = get_or-map-range_with_len fence-at 0 8 i i nowhere h (omega arith)
+
+  lies_within : (i : ℕ) → i < 8 → within n (fence-at i) ≡ true
   lies_within i h =
       let z = size-most t s i in
       grind (arith, nat_tests)
 
-  lies_apart : (i j : ℕ) → j < i → apart (fence_at t i) (fence_at t j) ≡ true
+  lies_apart : (i j : ℕ) → j < i → apart (fence-at i) (fence-at j) ≡ true
   lies_apart i j h =
       let z = size-most t s j in
       grind (arith, nat_tests)
 
-  pub fences-sound : sound_fences (fences_of t) n ≡ true
+  pub fences-sound : sound_fences counted n ≡ true
   fences-sound =
-      all-below (good_fence (fences_of t) n) 8 (λ i h.
-      and_from (within n (fence_of (fences_of t) i)) (all_below (apart_at (fences_of t) i) i)
-      (ap (within n) (fence_at_lem i h) ∙ lies_within i h)
-      (all-below (apart_at (fences_of t) i) i (λ j l.
-      ap (λ (f : Fence). apart f (fence_of (fences_of t) j)) (fence_at_lem i h)
-      ∙ ap (apart (fence_at t i)) (fence_at_lem j (omega arith))
+      all-below (good_fence counted n) 8 (λ i h.
+      and_from (within n (fence_of counted i)) (all_below (apart_at counted i) i)
+      (ap (within n) (fence-lem i h) ∙ lies_within i h)
+      (all-below (apart_at counted i) i (λ j l.
+      ap (λ (f : Fence). apart f (fence_of counted j)) (fence-lem i h)
+      ∙ ap (apart (fence-at i)) (fence-lem j (omega arith))
       ∙ lies_apart i j l)))
 
-  zeros_of : (i : ℕ) → i < 8 → part (replicate n 0) (fence_at t i) ≡ zeros_at t i
+  zeros_of : (i : ℕ) → i < 8 → part (replicate n 0) (fence-at i) ≡ zeros_at t i
   zeros_of i h =
       let z = size-most t s i in
       ap (take (size_at t i)) (drop-replicate (1024 * i) n 0) ∙ take-replicate (size_at t i) (n - 1024 * i) 0 (omega arith)
 
-  pub fences-zeroed : parts (replicate n 0) (fences_of t) ≡ zeroed t
+  pub fences-zeroed : parts (replicate n 0) counted ≡ zeroed t
   unfolding zeroed
   fences-zeroed =
-      fill_by_all (zeros_at t) (parts (replicate n 0) (fences_of t)) 8 []
-      (length-map (fences_of t) (part (replicate n 0)) ∙ length-map-range_with_len (fence_at t) 0 8)
+      fill_by_all (zeros_at t) (parts (replicate n 0) counted) 8 []
+      (length-map counted (part (replicate n 0)) ∙ length-map-range_with_len fence-at 0 8)
       (λ i h.
-      get_or-map (part (replicate n 0)) (fences_of t) i nowhere [] (let l = length-map-range_with_len (fence_at t) 0 8 in omega arith)
-      ∙ ap (part (replicate n 0)) (fence_at_lem i h)
+      get_or-map (part (replicate n 0)) counted i nowhere [] (let l = length-map-range_with_len fence-at 0 8 in omega arith)
+      ∙ ap (part (replicate n 0)) (fence-lem i h)
       ∙ zeros_of i h)
 
-  pub fences-laid : (fences : List Fence) → fences ≡ fences_of t →
+  pub fences-laid : (fences : List Fence) → fences ≡ fences_of (sizes_of t) →
       (sound_fences fences n ≡ true) × (parts (replicate n 0) fences ≡ zeroed t)
-  fences-laid fences e = (rw e fences-sound, rw e fences-zeroed)
+  fences-laid fences e =
+      let f : fences ≡ counted = e ∙ counted-is in
+      (rw f fences-sound, rw f fences-zeroed)

@@ -1,5 +1,5 @@
 -- The pages of a script are sound, and hold zeros.
-use Rattle.std.proofs.Common.{◌≡◌, ℕ, ◌+◌, ◌-◌, ◌*◌, ◌/◌, ◌%◌, ◌<◌, ◌≤◌, true, false, not, eqb, leb, List, [], map, get_or, replicate, sym, ap, ◌∙◌, arith}
+use Rattle.std.proofs.Common.{◌≡◌, ℕ, ◌+◌, ◌-◌, ◌*◌, ◌/◌, ◌%◌, ◌<◌, ◌≤◌, true, false, not, eqb, leb, List, [], map, get_or, replicate, refl, sym, ap, ◌∙◌, arith}
 use lib.ListN.{length-replicate}
 use Rattle.std.specs.List.{range_with_len}
 use Rattle.std.proofs.lemmas.List.FromFn.{length-map-range_with_len, get_or-range_with_len, get_or-map-range_with_len, fill_by_all}
@@ -9,13 +9,21 @@ use Rattle.vector.specs.declared.tables.Tables.{Tables}
 use Rattle.vector.specs.Laws.{AreasSized}
 use Rattle.boards.specs.Below.{all_below}
 use Rattle.boards.specs.Pages.{page, paged_byte, paged_area, paged, entry, used, differs, good_entry, fits, sound_pages}
-use Rattle.stage.specs.Layouts.{size_at, sizes_of, zeros_at, zeroed, pages_at, pages_from, pages_of}
+use Rattle.stage.specs.Layouts.{size_at, sizes_of, zeros_at, zeroed, pages_from, pages_of}
 use Rattle.stage.proofs.Zeros.{all-below, zero-at, size-most}
 
-page-at : (i k : ℕ) → i < 8 → k < 16 → page pages_of i k ≡ (112 - 16 * i) + k
+-- the pages of an area, and the areas, one for each number below eight
+abbrev pages-at : ℕ → List ℕ
+pages-at i = range_with_len (112 - 16 * i) 16
+
+pages-counted : pages_of ≡ map pages-at (range_with_len 0 8)
 unfolding pages_from
+pages-counted = refl
+
+page-at : (i k : ℕ) → i < 8 → k < 16 → page pages_of i k ≡ (112 - 16 * i) + k
 page-at i k h l =
-    ap (λ (ps : List ℕ). get_or ps k 0) (get_or-map-range_with_len pages_at 0 8 i i [] h (omega arith))
+    ap (λ (table : List (List ℕ)). page table i k) pages-counted
+    ∙ ap (λ (ps : List ℕ). get_or ps k 0) (get_or-map-range_with_len pages-at 0 8 i i [] h (omega arith))
     ∙ get_or-range_with_len (112 - 16 * i) 16 k 0 l
 
 entry_at : (e : ℕ) → e < 128 → entry pages_of e ≡ (112 - 16 * (e / 16)) + e % 16
@@ -29,8 +37,11 @@ entries-differ e d h l =
     ne_eqb (entry pages_of e) (entry pages_of d) (λ z. omega arith)
 
 module _ (t : Tables) (s : AreasSized t) (n : ℕ) (room : 8192 ≤ n) where
+  sizes-counted : sizes_of t ≡ map (size_at t) (range_with_len 0 8)
+  sizes-counted = refl
+
   size-at : (i : ℕ) → i < 8 → get_or (sizes_of t) i 0 ≡ size_at t i
-  size-at i h = get_or-map-range_with_len (size_at t) 0 8 i i 0 h (omega arith)
+  size-at i h = ap (λ (zs : List ℕ). get_or zs i 0) sizes-counted ∙ get_or-map-range_with_len (size_at t) 0 8 i i 0 h (omega arith)
 
   entry-good : (e : ℕ) → e < 128 → good_entry pages_of (sizes_of t) n e ≡ true
   entry-good e h =

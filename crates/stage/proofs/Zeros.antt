@@ -6,7 +6,7 @@ use Rattle.std.proofs.lemmas.Bool.{and_from, cond_both, cond-true, eq-eqb, lt-lt
 use Rattle.vector.specs.declared.tables.Tables.{Tables}
 use Rattle.vector.specs.Laws.{AreasSized}
 use Rattle.vector.specs.Rows.{partition_at}
-use Rattle.board.specs.Areas.{area}
+use Rattle.machine.specs.State.{area}
 use Rattle.boards.specs.Below.{all_below}
 use Rattle.machine.specs.Step.{fits, fits_below}
 use Rattle.stage.specs.Layouts.{size_at, zeros_at, zeroed}

@@ -1,16 +1,18 @@
 //! The boards that a system starts on: areas of the vector's sizes, all zeros.
-ghost use Rattle.std.specs.Prelude.{◌≡◌, ◌<◌, ◌≤◌, true, replicate};
+#![tactic(auto)]
+
+ghost use Rattle.std.specs.Prelude.{◌≡◌, ℕ, ◌<◌, ◌≤◌, true, replicate};
 ghost use Rattle.vector.specs.Laws.{AreasSized};
 ghost use Rattle.machine.specs.Step.{fits};
-ghost use Rattle.boards.specs.Fences.{parts, sound_fences};
-ghost use Rattle.boards.specs.Pages.{paged as paged_areas, sound_pages};
+ghost use Rattle.boards.specs.Fences.{parts};
+ghost use Rattle.boards.specs.Pages.{paged as paged_areas};
 ghost use Rattle.stage.specs.Layouts.{zeroed, size_at, sizes_of, fence_at, fences_of, pages_from, pages_of};
 
 use boards::{Fence, Fenced, Paged};
 use vector::tables::Tables;
 
 /// Room for eight areas of 1,024 bytes.
-const ROOM: usize = 8192;
+pub const ROOM: usize = 8192;
 
 /// The size of an area; a partition that is not there has none.
 fn size(tables: &Tables, i: usize) -> usize
@@ -25,7 +27,7 @@ fn size(tables: &Tables, i: usize) -> usize
 }
 
 /// The sizes of the eight areas.
-fn sizes(tables: &Tables) -> [usize; 8]
+pub fn sizes(tables: &Tables) -> [usize; 8]
     ensures { result ≡ sizes_of tables.now }
 {
     [
@@ -41,33 +43,29 @@ fn sizes(tables: &Tables) -> [usize; 8]
 }
 
 /// Area i lies from 1,024 i on.
-fn fence(tables: &Tables, i: usize) -> Fence
+fn fence(i: usize, size: usize) -> Fence
     requires { i < 8 }
-    ensures { result ≡ fence_at tables.now i }
+    ensures { result ≡ fence_at i size }
 {
     Fence {
         base: 1024 * i,
-        size: size(tables, i),
+        size,
     }
 }
 
-/// The fences of the eight areas, each within its 1,024 bytes.
-fn fences(tables: &Tables) -> [Fence; 8]
-    requires few { tables.now.partitions.count ≤ 8 }
-    requires sized { AreasSized tables.now }
-    ensures sound { sound_fences result 8192 ≡ true }
-    ensures zeros { parts (replicate 8192 0) result ≡ zeroed tables.now }
-    ensures fitting { fits tables.now (zeroed tables.now) ≡ true }
+/// The fences of the eight areas.
+pub fn fences(sizes: &[usize; 8]) -> [Fence; 8]
+    ensures { result ≡ fences_of sizes.now }
 {
     [
-        fence(tables, 0),
-        fence(tables, 1),
-        fence(tables, 2),
-        fence(tables, 3),
-        fence(tables, 4),
-        fence(tables, 5),
-        fence(tables, 6),
-        fence(tables, 7),
+        fence(0, sizes[0]),
+        fence(1, sizes[1]),
+        fence(2, sizes[2]),
+        fence(3, sizes[3]),
+        fence(4, sizes[4]),
+        fence(5, sizes[5]),
+        fence(6, sizes[6]),
+        fence(7, sizes[7]),
     ]
 }
 
@@ -97,7 +95,7 @@ fn pages_from(p: u16) -> [u16; 16]
 }
 
 /// The areas' pages, the last area's first in the memory.
-fn pages() -> [[u16; 16]; 8]
+pub fn pages() -> [[u16; 16]; 8]
     ensures { result ≡ pages_of }
 {
     [
@@ -112,17 +110,6 @@ fn pages() -> [[u16; 16]; 8]
     ]
 }
 
-/// The pages of the areas, and the areas' sizes: no page is met twice, and no area is larger than its pages.
-fn page_layout(tables: &Tables) -> ([[u16; 16]; 8], [usize; 8])
-    requires few { tables.now.partitions.count ≤ 8 }
-    requires sized { AreasSized tables.now }
-    ensures sound { sound_pages result.0 result.1 8192 ≡ true }
-    ensures zeros { paged_areas (replicate 8192 0) result.0 result.1 ≡ zeroed tables.now }
-    ensures fitting { fits tables.now (zeroed tables.now) ≡ true }
-{
-    (pages(), sizes(tables))
-}
-
 /// The fenced board: the areas lie one after another.
 pub fn fenced(tables: &Tables) -> Fenced<ROOM>
     requires few { tables.now.partitions.count ≤ 8 }
@@ -130,7 +117,7 @@ pub fn fenced(tables: &Tables) -> Fenced<ROOM>
     ensures areas { parts result.memory result.fences ≡ zeroed tables.now }
     ensures fitting { fits tables.now (zeroed tables.now) ≡ true }
 {
-    Fenced::new([0; ROOM], fences(tables))
+    Fenced::new([0; ROOM], fences(&sizes(tables)))
 }
 
 /// The paged board: the areas are made of pages.
@@ -140,6 +127,5 @@ pub fn paged(tables: &Tables) -> Paged<ROOM>
     ensures areas { paged_areas result.memory result.table result.sizes ≡ zeroed tables.now }
     ensures fitting { fits tables.now (zeroed tables.now) ≡ true }
 {
-    let (pages, sizes) = page_layout(tables);
-    Paged::new([0; ROOM], pages, sizes)
+    Paged::new([0; ROOM], pages(), sizes(tables))
 }
