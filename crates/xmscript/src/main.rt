@@ -1,62 +1,113 @@
-//! Runs a script on each board, and prints what each event is answered.
+//! Runs a script on each board, and prints what each event is answered; asked by the word `areas`, also the bytes of the areas
+//! at the end.
 #![tactic(auto)]
 
-ghost use Rattle.std.specs.Prelude.{◌≡◌, true};
-ghost use Rattle.vector.specs.Reading.{takes};
+ghost use Rattle.std.specs.Prelude.{◌≡◌, ◌≤◌, true};
+ghost use Rattle.vector.specs.Reading.{takes, tables as tables_of};
+ghost use Rattle.machine.specs.Runs.{lines_of, events_of, lines};
+ghost use Rattle.machine.specs.Step.{boot as boot_of};
+ghost use Rattle.stage.specs.Layouts.{zeroed};
+ghost use Rattle.xmscript.specs.Words.{areas_of};
 
-mod stage;
-
-use crate::stage::{ROOM, fences, pages, sizes};
 use anyhow::anyhow;
 use board::Board;
-use boards::{Fenced, Paged};
-use kernel::run;
+use kernel::{System, run};
 use machine::event::Exchange;
 use script::error::ScriptError;
 use script::line::Line;
 use script::read_script;
+use stage::{fenced, paged};
+use std::env;
 use std::io::Read;
 use vector::check;
 use vector::checked::Checked;
 use vector::fault::Refusal;
+use vector::tables::Tables;
 
-/// Boots the vector on a board, takes the history, and prints the board's heading and each answer.
+/// No area is larger.
+const LARGEST: usize = 1024;
+
+/// What the program is asked to print.
+#[derive(Clone, Copy)]
+enum Wanted {
+    Answers,
+    Areas,
+}
+
+impl Wanted {
+    /// How many areas are printed.
+    fn areas(self, tables: &Tables) -> u8
+        requires { tables.now.partitions.count ≤ 8 }
+        ensures { result ≡ areas_of self tables.now }
+    {
+        match self {
+            Wanted::Answers => 0,
+            Wanted::Areas => tables.partitions.count as u8,
+        }
+    }
+}
+
+/// The areas are wanted where the word `areas` is given.
+fn read_words(rt: &HostRuntime) -> anyhow::Result<Wanted> {
+    for word in env::args(rt)?.skip(1) {
+        if word.as_str() == "areas" {
+            return Ok(Wanted::Areas);
+        }
+    }
+    Ok(Wanted::Answers)
+}
+
+/// Prints the bytes of a partition's area.
+fn show_area<B: Board>(rt: &impl Print, system: &System<B>, i: u8) -> anyhow::Result<()> {
+    print!(rt; "area {i} ")?;
+    for at in 0..LARGEST {
+        let Some(byte) = system.byte(i, at) else {
+            break;
+        };
+        print!(rt; "{byte:02x}")?;
+    }
+    rt.println("")?;
+    Ok(())
+}
+
+/// Boots the vector on a board, takes the history, and prints the board's heading, each answer, and the areas of the first
+/// `shown` partitions. The history has the machine's answers afterwards, also where a print fails.
 fn play<B: Board + Drop>(
     rt: &impl Print,
     heading: &str,
     bytes: &[u8],
     board: B,
     history: &mut [Exchange],
+    shown: u8,
 ) -> anyhow::Result<()>
     requires { takes bytes.now ≡ true }
+    ensures { lines_of history.new ≡ lines (tables_of bytes.now) (boot_of (tables_of bytes.now) (B.areas board)) (events_of history.old) }
 {
-    let _ = run(Checked::new(bytes), board, history);
+    let system = run(Checked::new(bytes), board, history);
     rt.println(heading)?;
     for exchange in &*history {
         rt.println(Line(exchange.answer))?;
     }
+    for i in 0..shown {
+        show_area(rt, &system, i)?;
+    }
     Ok(())
 }
 
-/// Plays a history on the fenced and on the paged board.
-fn play_each(rt: &impl Print, bytes: &[u8], history: &mut [Exchange]) -> anyhow::Result<()>
+/// Plays a history on the fenced and on the paged board. Their areas are the same, and so are the answers.
+fn play_each(
+    rt: &impl Print,
+    bytes: &[u8],
+    history: &mut [Exchange],
+    wanted: Wanted,
+) -> anyhow::Result<()>
     requires { takes bytes.now ≡ true }
+    ensures { lines_of history.new ≡ lines (tables_of bytes.now) (boot_of (tables_of bytes.now) (zeroed (tables_of bytes.now))) (events_of history.old) }
 {
-    let sizes = sizes(&Checked::new(bytes).tables());
-    play(
-        rt,
-        "fenced",
-        bytes,
-        Fenced::<ROOM>::new([0; ROOM], fences(&sizes)),
-        history,
-    )?;
-    play(
-        rt,
-        "paged",
-        bytes,
-        Paged::<ROOM>::new([0; ROOM], pages(), sizes),
-        history,
-    )
+    let tables = Checked::new(bytes).tables();
+    let shown = wanted.areas(&tables);
+    play(rt, "fenced", bytes, fenced(&tables), history, shown)?;
+    play(rt, "paged", bytes, paged(&tables), history, shown)
 }
 
 fn show_refusal(rt: &impl Print, refusal: Refusal) -> anyhow::Result<()> {
@@ -67,6 +118,7 @@ fn show_refusal(rt: &impl Print, refusal: Refusal) -> anyhow::Result<()> {
 }
 
 fn play_script(rt: &HostRuntime) -> anyhow::Result<()> {
+    let wanted = read_words(rt)?;
     let mut input = Vec::new(rt.alloc());
     rt.stdin().read_to_end(&mut input)?;
     let mut script = match read_script(rt.alloc(), input.as_slice()) {
@@ -78,7 +130,7 @@ fn play_script(rt: &HostRuntime) -> anyhow::Result<()> {
         Err(ScriptError::OutOfMemory) => return Err(anyhow!("no memory for the script")),
     };
     match check(script.vector) {
-        Ok(()) => play_each(rt, script.vector, script.history.as_mut_slice()),
+        Ok(()) => play_each(rt, script.vector, script.history.as_mut_slice(), wanted),
         Err(refusal) => show_refusal(rt, refusal),
     }
 }
