@@ -19,6 +19,8 @@ pub(crate) mod record;
 #[cfg(test)]
 mod tests;
 
+pub use record::{Cut, next_event};
+
 /// The bytes of the vector, not looked at yet, and the events, each with the answer Done.
 #[derive(Drop)]
 pub struct Script<'a> {

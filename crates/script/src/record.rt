@@ -33,3 +33,10 @@ pub(crate) fn split<'a>(bytes: &'a [u8]) -> Option<Cut<'a>>
         rest,
     })
 }
+
+/// The first record's event, for who takes records one after another; None where it is malformed.
+pub fn next_event<'a>(bytes: &'a [u8]) -> Option<Cut<'a>>
+    ensures { Splits bytes.now result }
+{
+    split(bytes)
+}
