@@ -1,4 +1,6 @@
 //! The entrance for other programs: a vector and event records go in as bytes, and the answers come out as bytes. It needs no heap.
+#![tactic(auto)]
+
 ghost use Rattle.std.specs.Prelude.{◌≡◌, if◌then◌else◌, None};
 ghost use Rattle.vector.specs.Reading.{takes, tables as tables_of};
 ghost use Rattle.kernel.specs.World.{world_of, booted};
@@ -19,7 +21,7 @@ mod encoding;
 /// there is no room for an answer.
 fn answer_all<B: Board>(system: &mut System<B>, records: &[u8], answers: &mut [u8]) -> Option<usize>
     ensures count { result ≡ count_of (read_of records.now) (room_in answers.old) }
-    ensures bytes { answers.new ≡ written (world_of areas system.old) (read_of records.now) answers.old }
+    ensures bytes { answers.new ≡ written (world_of B.areas system.old) (read_of records.now) answers.old }
 {
     let room = answers.len() / 12;
     let mut rest = records;
@@ -41,8 +43,7 @@ fn answer_all<B: Board>(system: &mut System<B>, records: &[u8], answers: &mut [u
 /// code, a and b, each with the low byte first. The result is the number of events answered; it is `usize::MAX` where the
 /// vector is refused, at a malformed record, and where the answers have no room for 12 more bytes. What was written before
 /// stays, and nothing else of the answers changes.
-#[unsafe(no_mangle)]
-pub extern "C" fn xm_run(vector: &[u8], records: &[u8], answers: &mut [u8]) -> usize
+pub fn xm_run(vector: &[u8], records: &[u8], answers: &mut [u8]) -> usize
     ensures count { result ≡ number_of (if takes vector.now then count_of (read_of records.now) (room_in answers.old) else None) }
     ensures bytes { answers.new ≡ (if takes vector.now then written (booted (tables_of vector.now) (zeroed (tables_of vector.now))) (read_of records.now) answers.old else answers.old) }
 {

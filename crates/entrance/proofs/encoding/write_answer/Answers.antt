@@ -4,4 +4,4 @@ use Rattle.entrance.proofs.Putting.{put-part}
 use Rattle.entrance.proofs.encoding.write_answer.Goals as goal
 
 pub returns : goal.returns
-returns c = put-part c.args.at _ _ _ _ (add-sub_cancel_left c.args.at 12) (c.copy-from-slice.ensures.after ∙ c.encode.ensures)
+returns c = put-part c.args.at _ _ _ _ (add-sub_cancel_left c.args.at 12) (c.copy_from_slice.ensures.after ∙ c.encode.ensures)

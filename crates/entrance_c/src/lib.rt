@@ -1,0 +1,17 @@
+//! The entrance for C: the archive of the one function that other programs call.
+#![tactic(auto)]
+
+ghost use Rattle.std.specs.Prelude.{◌≡◌, if◌then◌else◌, None};
+ghost use Rattle.vector.specs.Reading.{takes, tables as tables_of};
+ghost use Rattle.kernel.specs.World.{booted};
+ghost use Rattle.stage.specs.Layouts.{zeroed};
+ghost use Rattle.entrance.specs.Session.{read_of, room_in, count_of, number_of, written};
+
+/// The number of events answered, or `usize::MAX`; each answer stands as 12 bytes in `answers`.
+#[unsafe(no_mangle)]
+pub extern "C" fn xm_run(vector: &[u8], records: &[u8], answers: &mut [u8]) -> usize
+    ensures count { result ≡ number_of (if takes vector.now then count_of (read_of records.now) (room_in answers.old) else None) }
+    ensures bytes { answers.new ≡ (if takes vector.now then written (booted (tables_of vector.now) (zeroed (tables_of vector.now))) (read_of records.now) answers.old else answers.old) }
+{
+    entrance::xm_run(vector, records, answers)
+}
