@@ -1,7 +1,7 @@
 //! The boards that a system starts on: areas of the vector's sizes, all zeros.
 #![tactic(auto)]
 
-ghost use Rattle.std.specs.Prelude.{◌≡◌, ℕ, ◌<◌, ◌≤◌, true, replicate};
+ghost use Rattle.std.specs.Prelude.{◌≡◌, ◌<◌, ◌≤◌, true};
 ghost use Rattle.vector.specs.Laws.{AreasSized};
 ghost use Rattle.machine.specs.Step.{fits};
 ghost use Rattle.boards.specs.Fences.{parts};
