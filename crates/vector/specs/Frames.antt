@@ -2,7 +2,7 @@
 use Rattle.std.specs.Prelude.{ℕ, ◌+◌, ◌*◌, Bool, cond, ◌&&◌, List, length, take, drop, ◌==◌, nat_le, nat_lt, slice_index}
 use Rattle.vector.specs.Reasons.{past_end, unknown_kind, wrong_length}
 use Rattle.vector.specs.Out.{Out, fine, bad, then}
-use Rattle.vector.specs.declared.record.Cut.{Cut}
+use Rattle.vector.specs.declared.frame.Cut.{Cut}
 use Rattle.vector.specs.declared.record.Kind.{Kind}
 use Rattle.vector.specs.declared.record.Kind.TheVariants.{Header, Partition, Plan, Slot, Channel, Port, Ipvi, Line, Action}
 

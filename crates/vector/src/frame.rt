@@ -5,7 +5,15 @@ ghost use Rattle.vector.specs.Reasons.{frame_reason};
 ghost use Rattle.vector.specs.Frames.{framed, framed_of, kind_of, suits};
 
 use crate::fault::FrameFault;
-use crate::record::{Cut, Kind};
+use crate::record::Kind;
+
+/// A record's kind and body, and the bytes after it.
+#[derive(Clone, Copy)]
+pub(crate) struct Cut<'a> {
+    pub(crate) kind: Kind,
+    pub(crate) body: &'a [u8],
+    pub(crate) rest: &'a [u8],
+}
 
 pub(crate) fn word(low: u8, high: u8) -> u16
     ensures { result ≡ low + 256 * high }

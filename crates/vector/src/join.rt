@@ -3,88 +3,19 @@ ghost use Rattle.std.specs.Prelude.{◌≡◌, ◌+◌, ◌^◌, ◌<◌, ◌≤
 ghost use Rattle.vector.specs.Bodies.{said_of};
 ghost use Rattle.vector.specs.Rooms.{Room};
 ghost use Rattle.vector.specs.Frames.{suits};
-ghost use Rattle.vector.specs.Joins.{admitted, is_queuing, is_full, InScope, Ready, respond, joined, joined_partition, joined_slot, joined_channel, joined_port, joined_link, joined_line, joined_action};
+ghost use Rattle.vector.specs.Joins.{InScope, Ready, joined, joined_partition, joined_slot, joined_channel, joined_port, joined_link, joined_line, joined_action};
 ghost use Rattle.vector.specs.Out.{out};
 ghost use Rattle.vector.specs.Reading.{heard};
 ghost use Rattle.vector.specs.Reasons.{reason, relation_reason};
 ghost use Rattle.vector.specs.Rows.{open_channel};
-ghost use Rattle.vector.specs.Sofars.{with_header, with_tables, is_given, giving};
+ghost use Rattle.vector.specs.Sofars.{with_header, with_tables};
 
 use crate::bodies::read_body;
 use crate::fault::{Refusal, RelationFault};
 use crate::names::{is_clashing, is_named};
 use crate::record::{Kind, Record, Scope};
-use crate::sofar::{Given, Sofar};
-use crate::tables::{Channel, ChannelKind, Name, PartitionRow, Plan, Port, Response, Slot, Tables};
-
-impl Plan {
-    fn admit(&self, slot: &Slot, at: usize) -> Result<(), RelationFault>
-        ensures { out relation_reason (λ u. u) result ≡ admitted at self.now slot.now }
-    {
-        if self.count >= 16 {
-            return Err(RelationFault::TooMany { at });
-        }
-        let start = slot.start as u64;
-        if self.end() <= start && start + slot.duration as u64 <= self.frame as u64 {
-            Ok(())
-        } else {
-            Err(RelationFault::Misplaced { at })
-        }
-    }
-}
-
-impl ChannelKind {
-    fn is_queuing(self) -> bool
-        ensures { result ≡ is_queuing self }
-    {
-        matches!(self, ChannelKind::Queuing)
-    }
-}
-
-impl Tables {
-    /// Whether there is no room for one more port of the channel that was added last.
-    fn is_full(&self) -> bool
-        requires { self.now.channels.count ≤ 8 }
-        ensures { result ≡ is_full self.now }
-    {
-        let channel = self.open_channel();
-        self.ports.count >= 32 || channel.kind.is_queuing() && channel.ports >= 2
-    }
-
-    fn respond(self, scope: Scope, event: u8, response: Response) -> Tables
-        requires { InScope scope event }
-        ensures { result ≡ respond scope event response self }
-    {
-        match scope {
-            Scope::Partition(partition) => self.with_response(partition, event, response),
-            Scope::System => self.with_system_response(event, response),
-        }
-    }
-}
-
-impl Given {
-    fn has(&self, scope: Scope, event: u8) -> bool
-        requires { InScope scope event }
-        ensures { result ≡ is_given scope event self.now }
-    {
-        match scope {
-            Scope::Partition(partition) => self.partitions[partition as usize][event as usize],
-            Scope::System => self.system[event as usize - 8],
-        }
-    }
-
-    fn with(mut self, scope: Scope, event: u8) -> Given
-        requires { InScope scope event }
-        ensures { result ≡ giving scope event self }
-    {
-        match scope {
-            Scope::Partition(partition) => self.partitions[partition as usize][event as usize] =
-                true,
-            Scope::System => self.system[event as usize - 8] = true,
-        }
-        self
-    }
-}
+use crate::sofar::Sofar;
+use crate::tables::{Channel, Name, PartitionRow, Port, Response, Slot, Tables};
 
 impl Sofar {
     fn with_header(self, partitions: u8, plans: u8) -> Sofar

@@ -13,6 +13,7 @@ use crate::fault::Refusal;
 use crate::scan::gather;
 use crate::tables::Tables;
 
+pub(crate) mod blank;
 pub(crate) mod bodies;
 pub mod checked;
 pub mod export;
@@ -25,6 +26,7 @@ pub mod reader;
 pub mod record;
 pub mod records;
 pub mod refusal;
+pub(crate) mod relations;
 pub(crate) mod rows;
 pub(crate) mod scan;
 pub(crate) mod sofar;

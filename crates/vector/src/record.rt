@@ -73,11 +73,3 @@ pub enum Record<'a> {
         log: bool,
     },
 }
-
-/// A record's kind and body, and the bytes after it.
-#[derive(Clone, Copy)]
-pub struct Cut<'a> {
-    pub kind: Kind,
-    pub body: &'a [u8],
-    pub rest: &'a [u8],
-}
