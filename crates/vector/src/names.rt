@@ -1,8 +1,16 @@
 // Names, and whether one was given before.
 ghost use Rattle.std.specs.Prelude.{◌≡◌, ◌≤◌, length};
+ghost use Rattle.std.specs.Str.{bytes_eq};
 ghost use Rattle.vector.specs.Names.{padded, same_name, named, clash, clashes};
 
 use crate::tables::{Name, PartitionRow, Port};
+
+/// All 16 bytes alone: names that differ only in zeros at their ends differ in length, which `Name::is` compares.
+fn are_same(a: &[u8; 16], b: &[u8; 16]) -> bool
+    ensures { result ≡ bytes_eq a.now b.now }
+{
+    *a == *b
+}
 
 impl Name {
     /// The name with these bytes, and zeros behind them.
@@ -23,7 +31,7 @@ impl Name {
     pub fn is(&self, other: &Name) -> bool
         ensures { result ≡ same_name self.now other.now }
     {
-        self.length == other.length && self.bytes == other.bytes
+        self.length == other.length && are_same(&self.bytes, &other.bytes)
     }
 }
 
