@@ -9,10 +9,10 @@ use crate::record::Kind;
 
 /// A record's kind and body, and the bytes after it.
 #[derive(Clone, Copy)]
-pub(crate) struct Cut<'a> {
-    pub(crate) kind: Kind,
-    pub(crate) body: &'a [u8],
-    pub(crate) rest: &'a [u8],
+pub struct Cut<'a> {
+    pub kind: Kind,
+    pub body: &'a [u8],
+    pub rest: &'a [u8],
 }
 
 pub(crate) fn word(low: u8, high: u8) -> u16

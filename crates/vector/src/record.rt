@@ -1,4 +1,5 @@
 // The records of a vector.
+pub use crate::frame::Cut;
 use crate::tables::{Action, ChannelKind, Class, Direction};
 
 #[derive(Clone, Copy)]
