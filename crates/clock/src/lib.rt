@@ -1,10 +1,10 @@
 //! Time: a tick at a stroke, whatever the microseconds that it passes.
 #![tactic(auto)]
 
-ghost use Rattle.std.specs.Prelude.{◌≡◌, ◌-◌, ◌≤◌};
+ghost use Rattle.std.specs.Prelude.{◌≡◌, ◌-◌, ◌<◌, ◌≤◌};
 ghost use Rattle.vector.specs.Sound.{SoundPlan, SoundPlans};
 ghost use Rattle.machine.specs.Questions.{slots_of};
-ghost use Rattle.machine.specs.Time.{timed, micros};
+ghost use Rattle.machine.specs.Time.{plan_at, timed, micros};
 ghost use Rattle.clock.specs.Ranges.{within, wake, upto};
 ghost use Rattle.clock.specs.Timely.{Timely};
 
@@ -20,19 +20,46 @@ pub fn pass(plans: &Plans, clock: &mut Clock, parts: &mut [Partition; 8], t: Tim
     ensures timely { Timely plans.now clock.new }
     ensures is { timed clock.new parts.new ≡ micros plans.now (t - clock.old.time) (timed clock.old parts.old) }
 {
-    let plan = &plans.rows[clock.plan as usize];
-    // who is due at the present offset has been woken when it came
-    let from = clock.time - clock.start + 1;
-    let offset = t - clock.start;
-    if offset < plan.frame {
-        wake(plan, parts, from, offset + 1);
-        clock.time = t;
-        return;
+    if t - clock.start < plans.rows[clock.plan as usize].frame {
+        pass_within(plans, clock, parts, t);
+    } else {
+        pass_over(plans, clock, parts, t);
     }
-    // the rest of this frame, and then frames of the next plan: the second and later ones wake no one new
-    wake(plan, parts, from, plan.frame);
+}
+
+/// Goes on to a time within the present frame.
+fn pass_within(plans: &Plans, clock: &mut Clock, parts: &mut [Partition; 8], t: Time)
+    requires plans { SoundPlans plans.now }
+    requires timely { Timely plans.now clock.old }
+    requires ahead { clock.old.time ≤ t }
+    requires within { t - clock.old.start < (plan_at plans.now clock.old.plan).frame }
+    ensures timely { Timely plans.now clock.new }
+    ensures is { timed clock.new parts.new ≡ micros plans.now (t - clock.old.time) (timed clock.old parts.old) }
+{
+    // who is due at the present offset has been woken when it came
+    wake(
+        &plans.rows[clock.plan as usize],
+        parts,
+        clock.time - clock.start + 1,
+        t - clock.start + 1,
+    );
+    clock.time = t;
+}
+
+/// Goes on to a time at or past the end of the present frame: the rest of this frame, and then frames of the next plan, of which
+/// the second and later ones wake no one new.
+fn pass_over(plans: &Plans, clock: &mut Clock, parts: &mut [Partition; 8], t: Time)
+    requires plans { SoundPlans plans.now }
+    requires timely { Timely plans.now clock.old }
+    requires ahead { clock.old.time ≤ t }
+    requires over { (plan_at plans.now clock.old.plan).frame ≤ t - clock.old.start }
+    ensures timely { Timely plans.now clock.new }
+    ensures is { timed clock.new parts.new ≡ micros plans.now (t - clock.old.time) (timed clock.old parts.old) }
+{
+    let plan = &plans.rows[clock.plan as usize];
     let next = &plans.rows[clock.next as usize];
-    let rest = offset - plan.frame;
+    let rest = t - clock.start - plan.frame;
+    wake(plan, parts, clock.time - clock.start + 1, plan.frame);
     wake(next, parts, 0, upto(rest, next.frame));
     *clock = Clock {
         time: t,

@@ -3,19 +3,8 @@ use native.Mathlib.Nat.{mod-le}
 use Rattle.machine.specs.Questions.{slots_of}
 use Rattle.machine.specs.Time.{plan_at, clock_of, timed}
 use Rattle.clock.specs.Ranges.{wake, upto}
-use Rattle.clock.proofs.Running.{pass_in, pass-over}
-use Rattle.clock.proofs.pass.Goals as goal
-
-pub returns-then-offset-plan : goal.returns-then-offset-plan
-returns-then-offset-plan c =
-    let k = c.args.clock.now in
-    let h = c.requires.timely in
-    record {
-      timely = (h.0, h.1, omega arith, omega arith);
-      is =
-          ap (timed (clock_of c.args.t k.plan k.next k.start)) c.wake.ensures
-          ∙ sym (pass_in c.args.plans.now c.args.t k.time k.plan k.next k.start c.args.parts.now h.2 c.requires.ahead c.if-offset-plan.true);
-    }
+use Rattle.clock.proofs.Running.{pass-over}
+use Rattle.clock.proofs.pass_over.Goals as goal
 
 pub returns : goal.returns
 returns c =
@@ -29,11 +18,11 @@ returns c =
     let m : r % v < v = mod-lt r z in
     let n : r % v ≤ r = mod-le r v in
     let ss = slots_of (plan_at ps k.next) in
-    let early = ap (wake ss 0 (upto r v)) c.wake-2.ensures in
-    let late = c.wake-3.ensures ∙ ap (λ x. wake ss 0 x c.wake-2.new.parts) c.upto.ensures in
+    let early = ap (wake ss 0 (upto r v)) c.wake.ensures in
+    let late = c.wake-2.ensures ∙ ap (λ x. wake ss 0 x c.wake.new.parts) c.upto.ensures in
     record {
       timely = (h.1, h.1, omega arith, omega arith);
       is =
           ap (timed (clock_of t k.next k.next (t - r % v))) (late ∙ early)
-          ∙ sym (pass-over ps t k.time k.plan k.next k.start c.args.parts.now h.2 h.3 z c.if-offset-plan.false);
+          ∙ sym (pass-over ps t k.time k.plan k.next k.start c.args.parts.now h.2 h.3 z c.requires.over);
     }

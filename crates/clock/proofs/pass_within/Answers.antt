@@ -1,0 +1,15 @@
+use Rattle.std.proofs.Common.{sym, ap, ◌∙◌, arith}
+use Rattle.machine.specs.Time.{clock_of, timed}
+use Rattle.clock.proofs.Running.{pass_in}
+use Rattle.clock.proofs.pass_within.Goals as goal
+
+pub returns : goal.returns
+returns c =
+    let k = c.args.clock.now in
+    let h = c.requires.timely in
+    record {
+      timely = (h.0, h.1, omega arith, omega arith);
+      is =
+          ap (timed (clock_of c.args.t k.plan k.next k.start)) c.wake.ensures
+          ∙ sym (pass_in c.args.plans.now c.args.t k.time k.plan k.next k.start c.args.parts.now h.2 c.requires.ahead c.requires.within);
+    }
