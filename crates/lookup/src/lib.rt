@@ -6,5 +6,6 @@ mod tables;
 
 pub use rounds::circle;
 pub use tables::{
-    find_port, is_hearing, is_managing, is_owner, is_source, is_system, is_there, mask_of, owner_of,
+    find_port, is_hearing, is_managing, is_member, is_owner, is_source, is_system, is_there,
+    mask_of, owner_of,
 };

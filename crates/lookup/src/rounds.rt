@@ -1,20 +1,17 @@
 // The circle of a partition, as a mask.
-ghost use Rattle.std.specs.Prelude.{◌≡◌, ℕ, ◌<◌, ◌≤◌, ◌&&◌, if◌then◌else◌, Some, None};
+ghost use Rattle.std.specs.Prelude.{◌≡◌, ◌<◌, ◌≤◌, ◌&&◌, if◌then◌else◌, Some, None};
 ghost use Rattle.machine.specs.Partitions.{bit};
 ghost use Rattle.machine.specs.Questions.{exists, same_kind};
-ghost use Rattle.machine.specs.Circle.{feeds, joined, with_pair, with_port, with_raiser, with_links, grown, circle_of};
+ghost use Rattle.machine.specs.Circle.{Circle, feeds, joined, with_pair, with_port, with_raiser, with_links, grown, circle_of};
 ghost use Rattle.lookup.specs.Bounds.{Ported, Joined};
 
-use crate::tables::{is_source, is_system, mask_of};
+use crate::tables::{is_kind, is_member, is_source, is_system, mask_of};
 use vector::tables::{ChannelKind, Tables};
 
 fn is_queuing(kind: ChannelKind) -> bool
     ensures { result ≡ same_kind kind ChannelKind.Queuing }
 {
-    match kind {
-        ChannelKind::Queuing => true,
-        ChannelKind::Sampling => false,
-    }
+    is_kind(kind, ChannelKind::Queuing)
 }
 
 /// Whether port i is a source and port j a destination of one channel.
@@ -34,7 +31,7 @@ fn has(mask: u8, q: u8) -> bool
     requires { q < 8 }
     ensures { result ≡ bit mask q }
 {
-    mask & (1 << q) != 0
+    is_member(mask, q)
 }
 
 /// The mask with the partition in it, where the test holds.
@@ -112,6 +109,25 @@ fn with_round(tables: &Tables, mask: u8) -> u8
     found
 }
 
+/// The circle of a partition that is there: eight rounds, from it and the system partitions on.
+fn circle_of(tables: &Tables, partition: u8) -> u8
+    requires there { partition < tables.now.partitions.count }
+    requires few { tables.now.partitions.count ≤ 8 }
+    requires ported { Ported tables.now.ports }
+    requires joined { Joined tables.now.ports }
+    ensures is { result ≡ circle_of tables.now partition }
+    ensures least { Circle tables.now partition (bit result) }
+{
+    let mut found = 1u8 << partition;
+    for q in 0..tables.partitions.count {
+        found = join(is_system(tables, q as u8), q as u8, found);
+    }
+    for round in 0..8usize {
+        found = with_round(tables, found);
+    }
+    found
+}
+
 /// The circle of a partition: bit i is set where partition i is in it.
 pub fn circle(tables: &Tables, partition: u8) -> Option<u8>
     requires few { tables.now.partitions.count ≤ 8 }
@@ -122,12 +138,5 @@ pub fn circle(tables: &Tables, partition: u8) -> Option<u8>
     if partition as usize >= tables.partitions.count {
         return None;
     }
-    let mut found = 1u8 << partition;
-    for q in 0..tables.partitions.count {
-        found = join(is_system(tables, q as u8), q as u8, found);
-    }
-    for round in 0..8usize {
-        found = with_round(tables, found);
-    }
-    Some(found)
+    Some(circle_of(tables, partition))
 }

@@ -1,11 +1,12 @@
 // What the core asks of the vector's tables.
-ghost use Rattle.std.specs.Prelude.{◌≡◌, ℕ, ◌<◌, ◌≤◌, ◌&&◌, IfSome, if◌then◌else◌, Some};
+ghost use Rattle.std.specs.Prelude.{◌≡◌, ◌<◌, ◌≤◌, ◌&&◌, IfSome, if◌then◌else◌, Some};
 ghost use Rattle.vector.specs.Names.{same_name};
-ghost use Rattle.machine.specs.Questions.{exists, is_system, manages, is_source, same_kind, link, owner, channel_of, owns, hears, named};
+ghost use Rattle.machine.specs.Partitions.{bit};
+ghost use Rattle.machine.specs.Questions.{exists, is_system, manages, is_source, same_kind, link, owner, owns, hears, named};
 ghost use Rattle.machine.specs.Questions.{port as port_at};
 ghost use Rattle.lookup.specs.Bounds.{Ported, Joined, Lined};
 
-use vector::tables::{ChannelKind, Class, Direction, Name, Port, Tables};
+use vector::tables::{ChannelKind, Class, Direction, Name, Tables};
 
 /// Whether the vector has a partition of this number.
 pub fn is_there(tables: &Tables, q: u32) -> bool
@@ -43,6 +44,14 @@ pub fn mask_of(tables: &Tables, q: u8, number: u8) -> u8
     }
 }
 
+/// Whether the mask has the partition.
+pub fn is_member(mask: u8, q: u8) -> bool
+    requires { q < 8 }
+    ensures { result ≡ bit mask q }
+{
+    mask & (1 << q) != 0
+}
+
 /// Who owns a line.
 pub fn owner_of(tables: &Tables, line: u8) -> Option<u8>
     requires line { line < 16 }
@@ -62,7 +71,7 @@ pub fn is_source(direction: Direction) -> bool
     }
 }
 
-fn is_kind(kind: ChannelKind, other: ChannelKind) -> bool
+pub(crate) fn is_kind(kind: ChannelKind, other: ChannelKind) -> bool
     ensures { result ≡ same_kind kind other }
 {
     match (kind, other) {
@@ -112,6 +121,21 @@ fn pick(test: bool, i: u8, before: Option<u8>) -> Option<u8>
     if test { Some(i) } else { before }
 }
 
+/// The number of q's port of this type and name among the first n.
+fn find_among(tables: &Tables, q: u8, kind: ChannelKind, name: &Name, n: usize) -> Option<u8>
+    requires n { n ≤ tables.now.ports.count }
+    requires ported { Ported tables.now.ports }
+    requires joined { Joined tables.now.ports }
+    ensures is { result ≡ named tables.now q kind name.now n }
+    ensures there { IfSome result (λ i. i < n) }
+{
+    let mut found = None;
+    for i in 0..n {
+        found = pick(is_port(tables, q, kind, name, i), i as u8, found);
+    }
+    found
+}
+
 /// The number of q's port of this type and name.
 pub fn find_port(tables: &Tables, q: u8, kind: ChannelKind, name: &Name) -> Option<u8>
     requires ported { Ported tables.now.ports }
@@ -119,9 +143,5 @@ pub fn find_port(tables: &Tables, q: u8, kind: ChannelKind, name: &Name) -> Opti
     ensures is { result ≡ named tables.now q kind name.now tables.now.ports.count }
     ensures there { IfSome result (λ i. i < tables.now.ports.count) }
 {
-    let mut found = None;
-    for i in 0..tables.ports.count {
-        found = pick(is_port(tables, q, kind, name, i), i as u8, found);
-    }
-    found
+    find_among(tables, q, kind, name, tables.ports.count)
 }

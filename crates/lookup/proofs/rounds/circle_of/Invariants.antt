@@ -1,6 +1,6 @@
 use Rattle.std.proofs.Common.{◌≡◌, ◌^◌}
 use Rattle.machine.specs.Circle.{turns, with_system, with_round}
-use Rattle.lookup.proofs.rounds.circle.Given as goal
+use Rattle.lookup.proofs.rounds.circle_of.Given as goal
 
 abbrev pub invariant-loop-q : goal.invariant-loop-q
 invariant-loop-q l = l.found ≡ turns (with_system l.tables) l.q (2 ^ l.partition)

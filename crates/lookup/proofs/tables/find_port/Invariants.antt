@@ -1,8 +1,0 @@
-use Rattle.std.proofs.Common.{◌≡◌, ◌<◌, IfSome}
-use Rattle.machine.specs.Questions.{named}
-use Rattle.lookup.proofs.tables.find_port.Given as goal
-
--- what the ports so far give
-abbrev pub invariant-loop-i : goal.invariant-loop-i
-invariant-loop-i l =
-    (l.found ≡ named l.tables l.q l.kind l.name l.i) × IfSome l.found (λ i. i < l.tables.ports.count)
