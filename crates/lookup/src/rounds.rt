@@ -1,5 +1,5 @@
 // The circle of a partition, as a mask.
-ghost use Rattle.std.specs.Prelude.{◌≡◌, ◌<◌, ◌≤◌, ◌&&◌, if◌then◌else◌, Some, None};
+ghost use Rattle.std.specs.Prelude.{◌≡◌, ◌<◌, ◌≤◌, ◌&&◌, if◌then◌else◌, Some, None, IfSome};
 ghost use Rattle.machine.specs.Partitions.{bit};
 ghost use Rattle.machine.specs.Questions.{exists, same_kind};
 ghost use Rattle.machine.specs.Circle.{Circle, feeds, joined, with_pair, with_port, with_raiser, with_links, grown, circle_of};
@@ -128,12 +128,14 @@ fn circle_of(tables: &Tables, partition: u8) -> u8
     found
 }
 
-/// The circle of a partition: bit i is set where partition i is in it.
+/// The circle of a partition, the least closed set: bit i is set where partition i is in it. None where the vector has no such
+/// partition.
 pub fn circle(tables: &Tables, partition: u8) -> Option<u8>
     requires few { tables.now.partitions.count ≤ 8 }
     requires ported { Ported tables.now.ports }
     requires joined { Joined tables.now.ports }
-    ensures { result ≡ (if exists tables.now partition then Some (circle_of tables.now partition) else None) }
+    ensures is { result ≡ (if exists tables.now partition then Some (circle_of tables.now partition) else None) }
+    ensures least { IfSome result (λ m. Circle tables.now partition (bit m)) }
 {
     if partition as usize >= tables.partitions.count {
         return None;
