@@ -100,11 +100,3 @@ lawful k ms h w e =
       single = single k w.state.core;
       scheduled = scheduled k w.state.core;
     }
-
--- the mask that is answered is the circle
-pub mask-least : (k : Tables) (p : ℕ) → Fine k → (r : Option ℕ) → r ≡ cond (exists k p) (Some (circle_of k p)) None → IfSome r (λ m. Circle k p (bit m))
-mask-least k p f r e = subst (λ (o : Option ℕ). IfSome o (λ m. Circle k p (bit m))) (sym e) (either (exists k p) refl)
-  where
-    either : (b : Bool) → exists k p ≡ b → IfSome (cond b (Some (circle_of k p)) None) (λ m. Circle k p (bit m))
-    either true h = circled k f p h
-    either false h = tt
