@@ -14,19 +14,18 @@ unfolding at
 at_zero zero = omega arith
 at_zero (suc i) = let e : 0 / 2 ≡ 0 = omega arith in ap (λ w. at w i) e ∙ at_zero i
 
-at_and : (a b i : ℕ) → at (bit_and a b) i ≡ min (at a i) (at b i)
+-- an operation that works bit by bit
+at-step : (f c : ℕ → ℕ → ℕ) → ((a b : ℕ) → f a b % 2 ≡ c (a % 2) (b % 2)) → ((a b : ℕ) → f a b / 2 ≡ f (a / 2) (b / 2)) →
+    (a b i : ℕ) → at (f a b) i ≡ c (at a i) (at b i)
 unfolding at
-at_and a b zero = omega (arith, and_step a b)
-at_and a b (suc i) =
-    let e : bit_and a b / 2 ≡ bit_and (a / 2) (b / 2) = omega (arith, and_step a b) in
-    ap (λ w. at w i) e ∙ at_and (a / 2) (b / 2) i
+at-step f c l u a b zero = l a b
+at-step f c l u a b (suc i) = ap (λ w. at w i) (u a b) ∙ at-step f c l u (a / 2) (b / 2) i
+
+at_and : (a b i : ℕ) → at (bit_and a b) i ≡ min (at a i) (at b i)
+at_and = at-step bit_and min (λ a b. omega (arith, and_step a b)) (λ a b. omega (arith, and_step a b))
 
 at_or : (a b i : ℕ) → at (bit_or a b) i ≡ max (at a i) (at b i)
-unfolding at
-at_or a b zero = omega (arith, or_step a b)
-at_or a b (suc i) =
-    let e : bit_or a b / 2 ≡ bit_or (a / 2) (b / 2) = omega (arith, or_step a b) in
-    ap (λ w. at w i) e ∙ at_or (a / 2) (b / 2) i
+at_or = at-step bit_or max (λ a b. omega (arith, or_step a b)) (λ a b. omega (arith, or_step a b))
 
 at_most : (w i : ℕ) → at w i ≤ 1
 unfolding at

@@ -10,6 +10,10 @@ pub mod Calls
 pub mod Ticks
 pub mod Steps
 pub mod Theorem
+pub mod Kept
+pub mod Passing
+pub mod Sane
+pub mod Outcomes
 pub mod Integrity
 pub mod Bits
 pub mod Rounds

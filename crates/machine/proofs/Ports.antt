@@ -189,32 +189,35 @@ module _ (k : Tables) (M C : ℕ → Bool) (w : Sealed k M C) where
             (λ _. quiet_core M C x _ (alike_refl M C x)));
       }
 
-  pub read_sampling_message_respects : Respects k M C read_sampling_message
-  read_sampling_message_respects =
+  -- a call that receives by f: what it does depends on the channel alone, which a member that reads sees
+  receipt_respects : (t : ChannelKind) (f : Tables → Core → List ℕ → List ℕ → Option Letter → Out) →
+      ((q : ℕ) (l : Option Letter) (x y : Core) (a g : List ℕ) → Alike M C x y → queue k x (arg g 0) ≡ queue k y (arg g 0) →
+      Matched k M C q (f k x a g l) (f k y a g l)) →
+      ((q : ℕ) (l : Option Letter) (x : Core) (a g : List ℕ) → M q ≡ false → Owned k q t (arg g 0) → is_source_port k (arg g 0) ≡ false →
+      Quiet M C x (f k x a g l)) →
+      Respects k M C (λ k x a q g. receiving t k x a q g (f k x a g (first (queue k x (arg g 0)))))
+  receipt_respects t f i o =
       record {
         inside = λ q m x y a g r.
-            receiving_matched k M C q Sampling x y a g _ _ m r
+            receiving_matched k M C q t x y a g _ _ m r
             (λ h d.
-            let c = r.chans.at (channel_of k (arg g 0)) (read-seen q (arg g 0) Sampling m h d) in
-            subst (λ ms. Matched k M C q (sampled x a g (first (queue k x (arg g 0)))) (sampled y a g (first ms))) c
-            (sampled_matched k M C q (first (queue k x (arg g 0))) x y a g r));
-        outside = λ q o h x a g.
-            receiving_quiet k M C q Sampling x a g _ (λ h d. sampled_quiet k M C q (first (queue k x (arg g 0))) x a g);
+            let c = r.chans.at (channel_of k (arg g 0)) (read-seen q (arg g 0) t m h d) in
+            subst (λ ms. Matched k M C q (f k x a g (first (queue k x (arg g 0)))) (f k y a g (first ms))) c
+            (i q (first (queue k x (arg g 0))) x y a g r c));
+        outside = λ q n h x a g. receiving_quiet k M C q t x a g _ (o q (first (queue k x (arg g 0))) x a g n);
       }
+
+  pub read_sampling_message_respects : Respects k M C read_sampling_message
+  read_sampling_message_respects =
+      receipt_respects Sampling (λ _. sampled)
+      (λ q l x y a g r c. sampled_matched k M C q l x y a g r)
+      (λ q l x a g o h d. sampled_quiet k M C q l x a g)
 
   pub receive_queuing_message_respects : Respects k M C receive_queuing_message
   receive_queuing_message_respects =
-      record {
-        inside = λ q m x y a g r.
-            receiving_matched k M C q Queuing x y a g _ _ m r
-            (λ h d.
-            let c = r.chans.at (channel_of k (arg g 0)) (read-seen q (arg g 0) Queuing m h d) in
-            subst (λ ms. Matched k M C q (taken k x a g (first (queue k x (arg g 0)))) (taken k y a g (first ms))) c
-            (taken_matched k M C q (first (queue k x (arg g 0))) x y a g r c));
-        outside = λ q o h x a g.
-            receiving_quiet k M C q Queuing x a g _
-            (λ h d. taken_quiet k M C q (first (queue k x (arg g 0))) x a g (deaf q (arg g 0) o h d));
-      }
+      receipt_respects Queuing taken
+      (λ q l x y a g r c. taken_matched k M C q l x y a g r c)
+      (λ q l x a g o h d. taken_quiet k M C q l x a g (deaf q (arg g 0) o h d))
 
   -- a member sees the queuing channel of its port, of either direction
   waits_seen : (q i : ℕ) → M q ≡ true → Owned k q Queuing i → C (channel_of k i) ≡ true

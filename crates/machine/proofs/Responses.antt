@@ -1,5 +1,6 @@
 -- Faults and the health monitor's responses, and the calls on the log and the system.
 use Rattle.std.proofs.Common.{◌≡◌, ℕ, Bool, true, false, cond, ◌&&◌, ltb, leb, [], replicate, Some, None, Option, refl, ap}
+use Rattle.std.proofs.lemmas.Bool.{cond_both}
 use Rattle.queue.specs.Ring.{first}
 use Rattle.vector.specs.declared.tables.Tables.{Tables}
 use Rattle.vector.specs.declared.tables.Response.{Response}
@@ -23,11 +24,7 @@ use Rattle.machine.proofs.Targets.{no_system}
 module _ (M C : ℕ → Bool) where
   -- the log is nobody's to see
   logged-out : (q e : ℕ) (r : Response) (x : Core) → Alike M C x (logged q e r x)
-  logged-out q e r x = go r.log
-    where
-      go : (b : Bool) → Alike M C x (cond b (noted (entry q e r.action x.clock.time) x) x)
-      go true = log-out M C (alike_refl M C x) _
-      go false = alike_refl M C x
+  logged-out q e r x = cond_both r.log _ _ (Alike M C x) (λ _. log-out M C (alike_refl M C x) _) (λ _. alike_refl M C x)
 
   logged_alike : (q e : ℕ) (r : Response) (x y : Core) → Alike M C x y → Alike M C (logged q e r x) (logged q e r y)
   logged_alike q e r x y s = go r.log

@@ -4,7 +4,7 @@ use Rattle.std.proofs.lemmas.Bool.{both_ways, ltb-true}
 use Rattle.vector.specs.declared.tables.Tables.{Tables}
 use Rattle.machine.specs.declared.partition.Partition.{Partition}
 use Rattle.machine.specs.Answers.{reply}
-use Rattle.machine.specs.Partitions.{nobody, bit, signalled}
+use Rattle.machine.specs.Partitions.{nobody, bit, signalled, masked, unmasked, acknowledged}
 use Rattle.machine.specs.Questions.{exists, link, owner}
 use Rattle.machine.specs.State.{Core, keeps}
 use Rattle.machine.specs.Management.{arg}
@@ -13,7 +13,7 @@ use Rattle.machine.specs.Isolation.{stays}
 use Rattle.machine.proofs.Agree.{Agree, agree_refl, agree_trans, agree_put}
 use Rattle.machine.proofs.Alike.{Alike, Matched, Quiet, alike_refl, matched_guard, matched_same, matched_told, quiet_guard, quiet_core, parts_out, agree_modify, within, without}
 use Rattle.machine.proofs.Sealed.{Sealed}
-use Rattle.machine.proofs.Respects.{Respects}
+use Rattle.machine.proofs.Respects.{Respects, own_respects}
 
 module _ (M C : ℕ → Bool) where
   agree_raised : (mask bits n : ℕ) {ps rs : List Partition} → Agree M nobody ps rs →
@@ -65,13 +65,13 @@ module _ (k : Tables) (M C : ℕ → Bool) (w : Sealed k M C) where
       }
 
   pub set_irq_mask_respects : Respects k M C set_irq_mask
-  set_irq_mask_respects = record { inside = λ q m x y a g r. search within depth 8; outside = λ q o h x a g. search without depth 8 }
+  set_irq_mask_respects = own_respects k M C (λ g. masked (arg g 0))
 
   pub clear_irq_mask_respects : Respects k M C clear_irq_mask
-  clear_irq_mask_respects = record { inside = λ q m x y a g r. search within depth 8; outside = λ q o h x a g. search without depth 8 }
+  clear_irq_mask_respects = own_respects k M C (λ g. unmasked (arg g 0))
 
   pub clear_irq_pending_respects : Respects k M C clear_irq_pending
-  clear_irq_pending_respects = record { inside = λ q m x y a g r. search within depth 8; outside = λ q o h x a g. search without depth 8 }
+  clear_irq_pending_respects = own_respects k M C (λ g. acknowledged (arg g 0))
 
   line_of_matched : (q : ℕ) (o : Option ℕ) (l : ℕ) (x y : Core) → Alike M C x y → Matched k M C q (line_of o x l) (line_of o y l)
   line_of_matched q None l x y r = search within

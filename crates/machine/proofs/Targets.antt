@@ -6,14 +6,14 @@ use Rattle.machine.specs.declared.clock.Clock.{Clock}
 use Rattle.machine.specs.declared.partition.Partition.{Partition}
 use Rattle.machine.specs.declared.answer.Refusal.TheVariants.{NoAction}
 use Rattle.machine.specs.Answers.{reply, status_number}
-use Rattle.machine.specs.Partitions.{nobody, suspended, resumed, is_active, is_suspended}
+use Rattle.machine.specs.Partitions.{nobody, suspended, resumed, idled, is_active, is_suspended}
 use Rattle.machine.specs.Questions.{exists, is_system, manages, plan, slots_of}
 use Rattle.machine.specs.State.{Core, Out, keeps, done, refused, guard, with_parts, modify}
 use Rattle.machine.specs.Time.{clock_of}
-use Rattle.machine.specs.Management.{arg, get_time, get_partition_status, halt_partition, suspend_partition, resume_partition, reset_partition, idle_self, switch_plan, gaps, get_plan_status}
+use Rattle.machine.specs.Management.{arg, on_target, get_time, get_partition_status, halt_partition, suspend_partition, resume_partition, reset_partition, idle_self, switch_plan, gaps, get_plan_status}
 use Rattle.machine.proofs.Alike.{Alike, Matched, Quiet, alike_refl, matched_guard, matched_same, matched_told, matched_system, matched_far, parts_out, modify-out, within, without}
 use Rattle.machine.proofs.Sealed.{Sealed}
-use Rattle.machine.proofs.Respects.{Respects}
+use Rattle.machine.proofs.Respects.{Respects, own_respects}
 
 abbrev on_state : (Partition → Bool) → (Partition → Partition) → Core → ℕ → Out
 on_state test f x t =
@@ -61,11 +61,7 @@ module _ (k : Tables) (M C : ℕ → Bool) (w : Sealed k M C) where
       }
 
   pub idle_self_respects : Respects k M C idle_self
-  idle_self_respects =
-      record {
-        inside = λ q m x y a g r. search within depth 8;
-        outside = λ q o h x a g. search without depth 8;
-      }
+  idle_self_respects = own_respects k M C (λ _. idled)
 
   pub get_partition_status_respects : Respects k M C get_partition_status
   get_partition_status_respects =
@@ -96,23 +92,21 @@ module _ (k : Tables) (M C : ℕ → Bool) (w : Sealed k M C) where
             (parts_out M C (alike_refl M C y) (modify-out M C y.parts t f o)) (alike_refl M C y)
       ]
 
-  pub suspend_partition_respects : Respects k M C suspend_partition
-  suspend_partition_respects =
+  on_state_respects : (test : Partition → Bool) (f : Partition → Partition) →
+      Respects k M C (λ k x a q g. on_target k x q (arg g 0) (on_state test f x (arg g 0)))
+  on_state_respects test f =
       record {
         inside = λ q m x y a g r.
-            let f = λ (e : manages k q (arg g 0) ≡ true). changed_matched (λ p. is_active p.status) suspended q (arg g 0) m e x y r in
+            let h = λ (e : manages k q (arg g 0) ≡ true). changed_matched test f q (arg g 0) m e x y r in
             search within depth 8;
         outside = λ q o h x a g. search (without, own) depth 10;
       }
 
+  pub suspend_partition_respects : Respects k M C suspend_partition
+  suspend_partition_respects = on_state_respects (λ p. is_active p.status) suspended
+
   pub resume_partition_respects : Respects k M C resume_partition
-  resume_partition_respects =
-      record {
-        inside = λ q m x y a g r.
-            let f = λ (e : manages k q (arg g 0) ≡ true). changed_matched (λ p. is_suspended p.status) resumed q (arg g 0) m e x y r in
-            search within depth 8;
-        outside = λ q o h x a g. search (without, own) depth 10;
-      }
+  resume_partition_respects = on_state_respects (λ p. is_suspended p.status) resumed
 
   pub switch_plan_respects : Respects k M C switch_plan
   switch_plan_respects =

@@ -1,0 +1,207 @@
+-- What is true of the outcome of every event: one walk over the calls, the faults and the rest.
+use Rattle.std.proofs.Common.{◌≡◌, ℕ, ◌-◌, Bool, true, false, ◌&&◌, ◌||◌, eqb, List, pos, negsuc, Some, None, Option, sym, refl, subst, inl, inr, arith}
+use Rattle.std.proofs.lemmas.Bool.{both_ways, and_parts, or_cases, or_left, eqb-true, cond-true, cond_both}
+use Rattle.vector.specs.declared.tables.Tables.{Tables}
+use Rattle.vector.specs.declared.tables.Response.{Response}
+use Rattle.vector.specs.declared.tables.Action.{Action}
+use Rattle.vector.specs.declared.tables.Action.TheVariants.{Ignore, Signal, Suspend, Halt, WarmReset, ColdReset}
+use Rattle.vector.specs.declared.tables.ChannelKind.{ChannelKind}
+use Rattle.machine.specs.declared.log.Entry.{Entry}
+use Rattle.machine.specs.declared.answer.Refusal.{Refusal}
+use Rattle.machine.specs.declared.answer.Refusal.TheVariants.{SystemHalted}
+use Rattle.machine.specs.declared.event.Event.{Event}
+use Rattle.machine.specs.declared.event.Event.TheVariants.{Tick, Call, Load, Store, Fault, Line, SystemFault}
+use Rattle.machine.specs.declared.event.Hypercall.{Hypercall}
+use Rattle.machine.specs.Answers.{reply}
+use Rattle.machine.specs.Letters.{Letter}
+use Rattle.machine.specs.Questions.{exists, is_system, manages, response}
+use Rattle.machine.specs.State.{Core, State, Effect, keeps, writes, clears, clears_all, Out, refused, guard, area}
+use Rattle.machine.specs.Time.{timed}
+use Rattle.machine.specs.Faults.{logged, carried, faulted, system_response, system_carried}
+use Rattle.machine.specs.Management.{arg}
+use Rattle.machine.specs.Ports.{create_at, sampled, taken}
+use Rattle.machine.specs.Interrupts.{line_of}
+use Rattle.machine.specs.Monitor.{read}
+use Rattle.machine.specs.Calls.{perform, calls}
+use Rattle.machine.specs.Step.{running, gate, author, outcome}
+use Rattle.machine.specs.Laws.{replans}
+use Rattle.machine.specs.Isolation.{existing, whose}
+use Rattle.machine.specs.Integrity.{is_cold, is_cold_reset, is_system_fault}
+use Rattle.machine.proofs.Numbered.{From, none, ◌also◌, numbered}
+use Rattle.machine.proofs.Passing.{micros-plan}
+use Rattle.machine.proofs.Sane.{Sane, later_sane, logged_sane, sane}
+
+-- an effect on the area of o alone, where p's area is the one that is written
+abbrev pub Mine : ℕ → Option ℕ → Effect → Type 0
+Mine p o keeps = Unit {0}
+Mine p o (writes a) = o ≡ Some p
+Mine p o (clears t) = o ≡ Some t
+Mine p o (clears_all n) = ⊥
+
+-- An outcome u of o's event, written by p, in a machine x. A negative code moves nothing; the plan stays, unless the event replans;
+-- no area but o's is touched, unless the event reaches others; and a sane machine stays sane.
+pub record Tame (k : Tables) (p : ℕ) (o : Option ℕ) (replan reach : Bool) (x : Core) (u : Out) : Type 0 where
+  pub core : (n : ℕ) → u.reply.code ≡ negsuc n → u.core ≡ x
+  pub effect : (n : ℕ) → u.reply.code ≡ negsuc n → u.effect ≡ keeps
+  pub plan : replan ≡ false → u.core.clock.plan ≡ x.clock.plan
+  pub own : reach ≡ false → Mine p o u.effect
+  pub sane : Sane k x → Sane k u.core
+
+not_negative : (z n : ℕ) → pos z ≡ negsuc n → ⊥
+not_negative z n e = let w : ◌≡◌ {A = ℕ} 0 1 = cc in omega arith
+
+module _ (k : Tables) (p : ℕ) (o : Option ℕ) (replan reach : Bool) (x : Core) where
+  tame_guard : (b : Bool) {u v : Out} → (b ≡ true → Tame k p o replan reach x u) → (b ≡ false → Tame k p o replan reach x v) →
+      Tame k p o replan reach x (guard b u v)
+  tame_guard true f g = f refl
+  tame_guard false f g = g refl
+
+  tame_refused : (r : Refusal) → Tame k p o replan reach x (refused x r)
+  tame_refused r = record { core = λ n e. refl; effect = λ n e. refl; plan = λ _. refl; own = λ _. tt; sane = λ h. h }
+
+  -- every other code is not negative
+  tame_told : {y : Core} {f : Effect} (z m n : ℕ) → (replan ≡ false → y.clock.plan ≡ x.clock.plan) → (reach ≡ false → Mine p o f) →
+      (Sane k x → Sane k y) → Tame k p o replan reach x (record { core = y; effect = f; reply = reply (pos z) m n })
+  tame_told z m n e f h =
+      record { core = λ i e. absurd (not_negative z i e); effect = λ i e. absurd (not_negative z i e); plan = e; own = f; sane = h }
+
+ruleset tame = (tame_guard, tame_refused, tame_told, sane)
+
+logged-plan : (q e : ℕ) (r : Response) (x : Core) → (logged q e r x).clock.plan ≡ x.clock.plan
+logged-plan q e r x = cond_both r.log _ _ (λ (y : Core). y.clock.plan ≡ x.clock.plan) (λ _. refl) (λ _. refl)
+
+module _ (k : Tables) (b c : Bool) (x : Core) where
+  carried_tame : (a : Action) (q : ℕ) (y : Core) → y.clock.plan ≡ x.clock.plan → (Sane k x → Sane k y) →
+      Tame k q (Some q) b c x (carried a q y)
+  carried_tame Ignore q y e h = search tame depth 8
+  carried_tame Signal q y e h = search tame depth 8
+  carried_tame Suspend q y e h = search tame depth 8
+  carried_tame Halt q y e h = search tame depth 8
+  carried_tame WarmReset q y e h = search tame depth 8
+  carried_tame ColdReset q y e h = search tame depth 8
+
+  faulted_tame : (q e : ℕ) → Tame k q (Some q) b c x (faulted k x q e)
+  faulted_tame q e =
+      carried_tame (response k q e).action q _ (logged-plan q e (response k q e) x) (logged_sane k x q e (response k q e))
+
+  create_at_tame : (o : Option ℕ) (t : ChannelKind) (q : ℕ) (g : List ℕ) → Tame k q (Some q) b c x (create_at o t k x q g)
+  create_at_tame None t q g = search tame
+  create_at_tame (Some i) t q g = search tame depth 8
+
+  sampled_tame : (o : Option Letter) (a : List ℕ) (q : ℕ) (g : List ℕ) → Tame k q (Some q) b c x (sampled x a g o)
+  sampled_tame None a q g = search tame
+  sampled_tame (Some m) a q g = search tame
+
+  taken_tame : (o : Option Letter) (a : List ℕ) (q : ℕ) (g : List ℕ) → Tame k q (Some q) b c x (taken k x a g o)
+  taken_tame None a q g = search tame
+  taken_tame (Some m) a q g = search tame
+
+  read_tame : (o : Option Entry) (q : ℕ) → Tame k q (Some q) b c x (read x o)
+  read_tame None q = search tame
+  read_tame (Some e) q = search tame
+
+  line_of_tame : (o : Option ℕ) (p : ℕ) (w : Option ℕ) (l : ℕ) → Tame k p w b c x (line_of o x l)
+  line_of_tame None p w l = search tame
+  line_of_tame (Some q) p w l = search tame depth 8
+
+-- a system fault may replan and reach every area
+free_tame : (k : Tables) (p : ℕ) (o : Option ℕ) (x y : Core) (f : Effect) (z : ℕ) → (Sane k x → Sane k y) →
+    Tame k p o true true x (record { core = y; effect = f; reply = reply (pos z) 0 0 })
+free_tame k p o x y f z h = tame_told k p o true true x z 0 0 (λ e. absurd (both_ways true e refl)) (λ e. absurd (both_ways true e refl)) h
+
+system_carried_tame : (k : Tables) (p : ℕ) (o : Option ℕ) (a : Action) (x y : Core) → (Sane k x → Sane k y) →
+    Tame k p o true true x (system_carried k a y)
+system_carried_tame k p o Ignore x y h = search (free_tame, sane)
+system_carried_tame k p o Signal x y h = search (free_tame, sane)
+system_carried_tame k p o Suspend x y h = search (free_tame, sane)
+system_carried_tame k p o Halt x y h = search (free_tame, sane)
+system_carried_tame k p o WarmReset x y h = search (free_tame, sane)
+system_carried_tame k p o ColdReset x y h = search (free_tame, sane)
+
+ruleset parts = (carried_tame, faulted_tame, create_at_tame, sampled_tame, taken_tame, read_tame, line_of_tame)
+
+-- a call of this number: a system partition's system reset replans, and its cold reset reaches others
+abbrev Called : ℕ → Hypercall → Type 0
+Called n h = (k : Tables) (x : Core) (a : List ℕ) (q : ℕ) (g : List ℕ) →
+    Tame k q (Some q) (is_system k q && eqb n 23) (is_system k q && is_cold n g) x (perform h k x a q g)
+
+-- where a system partition is free to do what others may not
+free : {A : Type 0} (a b : Bool) → a ≡ true → b ≡ true → (a && b) ≡ false → A
+free true b s e n = absurd (both_ways b n e)
+free false b s e n = absurd (both_ways false refl s)
+
+-- a cold reset of a partition (5), unless by a system partition, clears the caller's own area
+cold_own : (k : Tables) (q : ℕ) (g : List ℕ) → manages k q (arg g 0) ≡ true → eqb (arg g 1) 1 ≡ true → (is_system k q && is_cold 5 g) ≡ false →
+    ◌≡◌ {A = Option ℕ} (Some q) (Some (arg g 0))
+cold_own k q g m e c =
+    elim (or_cases (is_system k q) (eqb (arg g 0) q) m) [
+      | inl s ↦ free (is_system k q) (is_cold 5 g) s (or_left (eqb (arg g 1) 1) _ e) c
+      | inr s ↦ let i = eqb-true (arg g 0) q s in cc
+    ]
+
+all_tame : From Called 0 calls
+all_tame =
+    -- 0 to 8: time, partitions, plans
+    (λ k x a q g. search tame)
+    also (λ k x a q g. search tame)
+    also (λ k x a q g. search tame depth 10)
+    also (λ k x a q g. search tame depth 10)
+    also (λ k x a q g. search tame depth 10)
+    also (λ k x a q g. let h = cold_own k q g in search tame depth 12)
+    also (λ k x a q g. search tame depth 8)
+    also (λ k x a q g. search tame depth 8)
+    also (λ k x a q g. search tame)
+    -- 9 to 15: ports
+    also (λ k x a q g. search (tame, parts))
+    also (λ k x a q g. search tame depth 8)
+    also (λ k x a q g. search (tame, parts))
+    also (λ k x a q g. search (tame, parts))
+    also (λ k x a q g. search tame depth 8)
+    also (λ k x a q g. search (tame, parts))
+    also (λ k x a q g. search tame)
+    -- 16 to 20: interrupts
+    also (λ k x a q g. search tame depth 8)
+    also (λ k x a q g. search tame)
+    also (λ k x a q g. search tame depth 8)
+    also (λ k x a q g. search tame depth 8)
+    also (λ k x a q g. search tame depth 8)
+    -- 21 to 24: the health monitor, the log, the system
+    also (λ k x a q g. search (tame, parts))
+    also (λ k x a q g. search (tame, parts))
+    also (λ k x a q g.
+    let plan = free {A = 0 ≡ x.clock.plan} (is_system k q) true in
+    let areas = free {A = ⊥} (is_system k q) (is_cold 23 g) in
+    search tame depth 10)
+    also (λ k x a q g. search tame depth 8)
+    also none
+
+-- who is on the processor exists
+gate_tame : (k : Tables) (b c : Bool) (x : Core) (q : ℕ) {u : Out} → Tame k q (Some q) b c x u → Tame k q (existing k q) b c x (gate k x q u)
+gate_tame k b c x q {u} h =
+    tame_guard k q (existing k q) b c x (running k x q)
+    (λ e. subst (λ o. Tame k q o b c x u) (sym (cond-true (exists k q) (Some q) None (and_parts (exists k q) _ e).0)) h)
+    (λ _. search tame)
+
+outcome_tame : (k : Tables) (s : State) (e : Event) →
+    Tame k (author e) (whose k e) (replans k s e) (is_system_fault e || is_cold_reset k e) s.core (outcome k s e)
+outcome_tame k s (Tick t) =
+    let n = t - s.core.clock.time in
+    let h = later_sane k s.core n in
+    let e = micros-plan k.plans n (timed s.core.clock s.core.parts) in
+    search tame
+outcome_tame k s (Call q n g) =
+    gate_tame k _ _ s.core q
+    (let h = numbered Called (λ n k x a q g. search tame) all_tame n k s.core (area s.areas q) q g in search tame)
+outcome_tame k s (Load q o) = gate_tame k _ _ s.core q (let h = faulted_tame k false false s.core q 6 in search tame)
+outcome_tame k s (Store q o v) = gate_tame k _ _ s.core q (let h = faulted_tame k false false s.core q 6 in search tame)
+outcome_tame k s (Fault q e) = gate_tame k _ _ s.core q (search (tame, parts))
+outcome_tame k s (Line l) = search (tame, parts)
+outcome_tame k s (SystemFault e) =
+    let h = system_carried_tame k 0 None (system_response k e).action s.core _ (logged_sane k s.core 255 e (system_response k e)) in
+    search tame
+
+-- .. in a system that runs or is halted
+pub tamed : (k : Tables) (s : State) (e : Event) →
+    Tame k (author e) (whose k e) (replans k s e) (is_system_fault e || is_cold_reset k e) s.core
+    (guard s.core.halted (refused s.core SystemHalted) (outcome k s e))
+tamed k s e = let h = outcome_tame k s e in search tame
