@@ -1,5 +1,5 @@
 -- What the machine keeps, the run keeps.
-use Rattle.std.proofs.Common.{◌≡◌, ℕ, Bool, true, false, cond, List, [], ◌∷◌, IfSome, Some, None, Option, sym, refl, ap, ◌∙◌, subst, ap₂}
+use Rattle.std.proofs.Common.{◌≡◌, ℕ, Bool, true, false, cond, List, [], ◌∷◌, sym, refl, ap, ◌∙◌, subst, ap₂}
 use Rattle.vector.specs.declared.tables.Tables.{Tables}
 use Rattle.vector.specs.declared.tables.ChannelKind.{ChannelKind}
 use Rattle.vector.specs.declared.tables.ChannelKind.TheVariants.{Sampling, Queuing}
@@ -8,15 +8,12 @@ use Rattle.vector.specs.declared.tables.Direction.TheVariants.{Source, Destinati
 use Rattle.vector.specs.Fair.{Fair}
 use Rattle.machine.specs.declared.event.Event.{Event}
 use Rattle.machine.specs.Answers.{Reply}
-use Rattle.machine.specs.Questions.{exists, is_source, same_kind}
+use Rattle.machine.specs.Questions.{is_source, same_kind}
 use Rattle.machine.specs.State.{State, area}
 use Rattle.machine.specs.Step.{step, boot}
 use Rattle.machine.specs.Runs.{Line, after, lines}
 use Rattle.machine.specs.Isolation as machine
 use Rattle.machine.specs.Isolation.{kept, is_of, Sight, sight, sights, Sheet, sheet, answers_to}
-use Rattle.machine.specs.Partitions.{bit}
-use Rattle.machine.specs.Circle.{Circle, Fine, circle_of}
-use Rattle.machine.proofs.Rounds.{circled}
 use Rattle.machine.proofs.Theorem.{isolated}
 use Rattle.machine.specs.Laws.{Bounded}
 use Rattle.machine.proofs.Integrity.{integral, preserved}

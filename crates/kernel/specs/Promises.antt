@@ -8,8 +8,8 @@ use Rattle.machine.specs.Questions.{exists, is_system}
 use Rattle.machine.specs.State.{Core, State, area}
 use Rattle.machine.specs.Step.{boot, fits, running}
 use Rattle.machine.specs.Laws.{Bounded, Single, Scheduled, replans}
-use Rattle.kernel.specs.World.{World}
-use Rattle.machine.specs.Runs.{Line, after}
+use Rattle.kernel.specs.World.{World, ended}
+use Rattle.machine.specs.Runs.{Line, after, lines}
 use Rattle.machine.specs.Circle.{Circle}
 use Rattle.machine.specs.Isolation.{strike, is_of, sight, answers_to, sheet}
 use Rattle.machine.specs.Integrity.{is_cold_reset, reaches}
@@ -55,3 +55,12 @@ pub record Lawful (k : Tables) (x : Core) : Type 0 where
 -- a history that found the areas ms and left ns: an area that none of its events reaches is as it was
 abbrev pub Preserving : Tables → List Event → List (List ℕ) → List (List ℕ) → Type 0
 Preserving k h ms ns = (r : ℕ) → any (reaches k r) h ≡ false → area ns r ≡ area ms r
+
+-- what a run of the history h on the areas ms is: it ends where the machine's does, with the machine's answers, and keeps
+-- what every run keeps
+pub record Ran (k : Tables) (ms : List (List ℕ)) (h : List Event) (ls : List Line) (w : World) : Type 0 where
+  pub ends : w ≡ ended k ms h
+  pub told : ls ≡ lines k (boot k ms) h
+  pub isolated : Isolating k ms h ls w.state
+  pub preserved : Preserving k h ms w.state.areas
+  pub lawful : Lawful k w.state.core

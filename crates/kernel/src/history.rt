@@ -3,13 +3,24 @@ ghost use Rattle.std.specs.Prelude.{◌≡◌};
 ghost use Rattle.vector.specs.Reading.{tables as tables_of};
 ghost use Rattle.machine.specs.Step.{boot as boot_of};
 ghost use Rattle.machine.specs.Runs.{lines_of, events_of, lines};
-ghost use Rattle.kernel.specs.Promises.{Isolating, Lawful, Preserving};
+ghost use Rattle.kernel.specs.Promises.{Isolating, Lawful, Preserving, Ran};
 ghost use Rattle.kernel.specs.World.{world_of, ended};
 
 use crate::whole::System;
 use board::Board;
 use machine::event::Exchange;
 use vector::checked::Checked;
+
+/// Takes the events from the boot on, one after another.
+fn play<B: Board>(vector: Checked, board: B, history: &mut [Exchange]) -> System<B>
+    ensures { Ran (tables_of vector.entry.bytes.now) (B.areas board) (events_of history.old) (lines_of history.new) (world_of B.areas result) }
+{
+    let mut system = System::boot(vector, board);
+    for i in 0..history.len() {
+        history[i].answer = system.event(history[i].event);
+    }
+    system
+}
 
 /// Boots a checked vector on a board, takes the events of the history one after another, and writes each answer beside its event.
 pub fn run<B: Board>(vector: Checked, board: B, history: &mut [Exchange]) -> System<B>
@@ -19,9 +30,5 @@ pub fn run<B: Board>(vector: Checked, board: B, history: &mut [Exchange]) -> Sys
     ensures preserved { Preserving (tables_of vector.entry.bytes.now) (events_of history.old) (B.areas board) (B.areas result.board) }
     ensures lawful { Lawful (tables_of vector.entry.bytes.now) (world_of B.areas result).state.core }
 {
-    let mut system = System::boot(vector, board);
-    for i in 0..history.len() {
-        history[i].answer = system.event(history[i].event);
-    }
-    system
+    play(vector, board, history)
 }

@@ -1,6 +1,6 @@
 use Rattle.kernel.specs.World.{world_of}
 use Rattle.kernel.proofs.Going.{Underway}
-use Rattle.kernel.proofs.history.run.Given as goal
+use Rattle.kernel.proofs.history.play.Given as goal
 
 abbrev pub invariant-loop-i : goal.invariant-loop-i
 invariant-loop-i g l =

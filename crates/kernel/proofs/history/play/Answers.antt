@@ -2,7 +2,7 @@ use Rattle.std.proofs.Common.{arith}
 use Rattle.vector.proofs.Fairness.{takes-fair}
 use Rattle.kernel.proofs.Going.{begun, onward, over}
 use Rattle.kernel.proofs.Keeping.{isolating, preserving, lawful}
-use Rattle.kernel.proofs.history.run.Goals as goal
+use Rattle.kernel.proofs.history.play.Goals as goal
 
 pub loop-i-init : goal.loop-i-init
 loop-i-init g c = begun _ _
