@@ -1,14 +1,18 @@
 -- A ring of cells, seen as the list of its entries.
-use Rattle.std.proofs.Common.{◌≡◌, ◌∙◌, Some, ℕ, ◌+◌, ◌-◌, ◌<◌, ◌≤◌, true, false, eqb, ltb, List, [], ◌∷◌, ◌++◌, length, get_or, take, drop, set, sym, refl, ap, arith, drop-set-lt}
+use Rattle.std.proofs.Common.{◌≡◌, ◌∙◌, Some, ℕ, ◌+◌, ◌-◌, ◌<◌, ◌≤◌, true, eqb, ltb, List, [], ◌∷◌, ◌++◌, length, get_or, take, drop, set, sym, ap, arith, drop-set-lt}
 use lib.Seq.{take-set-lt}
-use Rattle.std.proofs.lemmas.List.{places, same_lists, length-take, length-drop, length-append, set-append_left, set-append_right, take_more_set, drop-set-add, take-set-le}
-use Rattle.std.proofs.lemmas.Bool.{eqb-true, eqb-false, cond_both, cond-true, cond-false, eq-eqb, ne_eqb, lt-ltb, le-ltb, ltb-true, ltb-false}
-use Rattle.queue.specs.Ring.{items, first, rest, pushed, over, next, spot}
+use Rattle.std.proofs.lemmas.List.{places, same_lists, take-take, length-take, length-drop, length-append, set-append_left, set-append_right, take_more_set, drop-set-add, take-set-le}
+use Rattle.std.proofs.lemmas.Bool.{eqb-true, eqb-false, cond_both, cond-true, lt-ltb, ltb-true, ltb-false}
+use Rattle.queue.specs.declared.Queue.{Queue}
+use Rattle.queue.specs.Ring.{items, entries, first, rest, pushed, next, spot, Sound}
 
 module _ {X : Type 0} where
   pub length-items : (h n : ℕ) (cells : List X) → n ≤ length cells → length (items h n cells) ≡ n
   unfolding items
   length-items h n cells l = simp (length-take, length-append, length-drop) (omega arith)
+
+  pub counted : (q : Queue) (cells : List X) → Sound q cells → length (entries q cells) ≡ q.count
+  counted q cells s = length-items q.head q.count cells s.1
 
   pub no_items : (h n : ℕ) (cells : List X) → n ≡ 0 → items h n cells ≡ []
   unfolding items
@@ -61,34 +65,16 @@ module _ {X : Type 0} where
   pub oldest_is : (h n : ℕ) (cells : List X) (x : X) → h < length cells → 0 < n → n ≤ length cells → x ≡ get_or cells h x → Some x ≡ first (items h n cells)
   oldest_is h n cells x l m r e = ap Some e ∙ sym (ap first (pop_one h n cells x l m r))
 
-  length_rest : (xs : List X) → length (rest xs) ≡ length xs - 1
-  length_rest [] = refl
-  length_rest (x ∷ xs) = omega arith
+  pub other_entries : (q : Queue) (cells : List X) → Sound q cells → 0 < q.count →
+      items (next q.head (length cells)) (q.count - 1) cells ≡ rest (entries q cells)
+  other_entries q [] s m = absurd (omega arith)
+  other_entries q (x ∷ cells) s m = sym (ap rest (pop_one q.head q.count (x ∷ cells) x s.0 m s.1))
 
-  -- a ring that was full has room after a pop
-  pub room : (h n k m : ℕ) (cells : List X) → h < length cells → n ≡ length cells → m ≤ length cells → items k m cells ≡ rest (items h n cells) → m < length cells
-  room h n k m cells l f g e =
-      let a = length-items h n cells (omega arith) in
-      let b = length-items k m cells g in
-      let z = length_rest (items h n cells) in
-      omega (arith, ap length e)
+  -- the n oldest entries
+  pub kept : (q : Queue) (cells : List X) (n : ℕ) → n < q.count → items q.head n cells ≡ take n (entries q cells)
+  unfolding items
+  kept q cells n l = sym (take-take n q.count (drop q.head cells ++ take q.head cells) (omega arith))
 
-  pub over_full : (n : ℕ) (xs : List X) (x : X) → length xs ≡ n → over n xs x ≡ rest xs ++ x ∷ []
-  over_full n xs x e = cond-true _ _ _ (eq-eqb (length xs) n e)
-
-  -- a push into a ring that was full, after a pop
-  pub over_popped : (h n k m : ℕ) (cells : List X) (zs : List X) (x : X) → n ≡ length cells → items k m cells ≡ rest (items h n cells) →
-      zs ≡ items k m cells ++ x ∷ [] → zs ≡ over (length cells) (items h n cells) x
-  over_popped h n k m cells zs x f e z = z ∙ ap (λ l. l ++ x ∷ []) e ∙ sym (over_full (length cells) (items h n cells) x (length-items h n cells (omega arith) ∙ f))
-
-  pub over-room : (n : ℕ) (xs : List X) (x : X) → (length xs ≡ n → ⊥) → over n xs x ≡ xs ++ x ∷ []
-  over-room n xs x e = cond-false _ _ _ (ne_eqb (length xs) n e)
-
-  pub push_full : (n : ℕ) (xs : List X) (x : X) → n ≤ length xs → (false ≡ ltb (length xs) n) × (xs ≡ pushed n xs x)
-  push_full n xs x l = let e = le-ltb (length xs) n l in (sym e, sym (cond-false _ _ _ e))
-
+  -- where there is room, a push is one entry more
   pub push-room : (n : ℕ) (xs : List X) (x : X) → length xs < n → (true ≡ ltb (length xs) n) × (xs ++ x ∷ [] ≡ pushed n xs x)
   push-room n xs x l = let e = lt-ltb (length xs) n l in (sym e, sym (cond-true _ _ _ e))
-
-pub next-below : (h n : ℕ) → h < n → next h n < n
-next-below h n l = cond_both (eqb (h + 1) n) 0 (h + 1) (λ i. i < n) (λ e. omega arith) (λ e. let z = eqb-false (h + 1) n e in omega arith)

@@ -1,7 +1,7 @@
 //! A queue over cells that its callers lend, for every kind of entry.
 #![tactic(auto)]
 
-ghost use Rattle.std.specs.Prelude.{◌≡◌, ℕ, ◌<◌, ◌≤◌, [], ◌∷◌, ◌++◌, length, nat_lt};
+ghost use Rattle.std.specs.Prelude.{◌≡◌, ◌+◌, ◌-◌, ◌<◌, ◌≤◌, true, false, [], ◌∷◌, ◌++◌, length, take, Some, nat_lt};
 ghost use Rattle.queue.specs.Ring.{entries, empty, first, rest, pushed, over, next, spot, Sound};
 
 /// Where the entries lie in the cells: `count` of them from `head` on, round the end.
@@ -25,7 +25,7 @@ impl Queue {
         ensures is { result ≡ length (entries self.now cells.now) }
         ensures few { result ≤ length cells.now }
     {
-        self.count.min(cells.len())
+        cells.len() - self.room(cells)
     }
 
     /// The oldest entry.
@@ -33,10 +33,10 @@ impl Queue {
         requires sound { Sound self.now cells.now }
         ensures { result ≡ first (entries self.now cells.now) }
     {
-        if self.count == 0 {
+        if self.is_empty(cells) {
             None
         } else {
-            Some(cells[self.head])
+            Some(self.front(cells))
         }
     }
 
@@ -45,7 +45,7 @@ impl Queue {
         ensures sound { Sound self.new cells.now }
         ensures is { entries self.new cells.now ≡ [] }
     {
-        self.count = 0;
+        self.truncate(cells, 0);
     }
 
     /// One entry more; false where every cell is taken.
@@ -56,7 +56,7 @@ impl Queue {
         ensures room { result ≡ nat_lt (length (entries self.old cells.old)) (length cells.old) }
         ensures is { entries self.new cells.new ≡ pushed (length cells.old) (entries self.old cells.old) x }
     {
-        if self.count == cells.len() {
+        if self.room(cells) == 0 {
             return false;
         }
         self.put(cells, x);
@@ -70,13 +70,9 @@ impl Queue {
         ensures took { result ≡ first (entries self.old cells.now) }
         ensures left { entries self.new cells.now ≡ rest (entries self.old cells.now) }
     {
-        if self.count == 0 {
-            return None;
-        }
-        let x = cells[self.head];
-        self.head = after(self.head, cells.len());
-        self.count -= 1;
-        Some(x)
+        let x = self.oldest(cells);
+        self.drop_oldest(cells);
+        x
     }
 
     /// One entry more; where every cell is taken the oldest entry gives way.
@@ -86,12 +82,60 @@ impl Queue {
         ensures width { length cells.new ≡ length cells.old }
         ensures is { entries self.new cells.new ≡ over (length cells.old) (entries self.old cells.old) x }
     {
-        if self.count == cells.len() {
-            let _ = self.pop(cells);
-            self.put(cells, x);
-            return;
+        if self.room(cells) == 0 {
+            self.drop_oldest(cells);
         }
         self.put(cells, x);
+    }
+
+    /// How many cells are not taken.
+    fn room<X: Copy>(&self, cells: &[X]) -> usize
+        requires sound { Sound self.now cells.now }
+        ensures is { length (entries self.now cells.now) + result ≡ length cells.now }
+        ensures free { self.now.count + result ≡ length cells.now }
+    {
+        cells.len() - self.count
+    }
+
+    fn is_empty<X: Copy>(&self, cells: &[X]) -> bool
+        requires sound { Sound self.now cells.now }
+        ensures none { result ≡ true → entries self.now cells.now ≡ [] }
+        ensures some { result ≡ false → 0 < length (entries self.now cells.now) }
+    {
+        self.count == 0
+    }
+
+    /// The oldest entry, where there is one.
+    fn front<X: Copy>(&self, cells: &[X]) -> X
+        requires sound { Sound self.now cells.now }
+        requires some { 0 < length (entries self.now cells.now) }
+        ensures { Some result ≡ first (entries self.now cells.now) }
+    {
+        cells[self.head]
+    }
+
+    /// Drops the oldest entry, where there is one.
+    fn drop_oldest<X: Copy>(&mut self, cells: &[X])
+        requires sound { Sound self.old cells.now }
+        ensures sound { Sound self.new cells.now }
+        ensures fewer { self.new.count ≡ self.old.count - 1 }
+        ensures left { entries self.new cells.now ≡ rest (entries self.old cells.now) }
+    {
+        if self.count > 0 {
+            self.head = after(self.head, cells.len());
+            self.count -= 1;
+        }
+    }
+
+    /// Keeps the n oldest entries, or all where there are fewer.
+    fn truncate<X: Copy>(&mut self, cells: &[X], n: usize)
+        requires sound { Sound self.old cells.now }
+        ensures sound { Sound self.new cells.now }
+        ensures is { entries self.new cells.now ≡ take n (entries self.old cells.now) }
+    {
+        if n < self.count {
+            self.count = n;
+        }
     }
 
     /// One entry more, where there is room.
@@ -119,7 +163,8 @@ fn place(h: usize, n: usize, z: usize) -> usize
 /// The cell after i of n, round the end.
 fn after(i: usize, n: usize) -> usize
     requires { i < n }
-    ensures { result ≡ next i n }
+    ensures is { result ≡ next i n }
+    ensures within { result < n }
 {
     if i + 1 == n { 0 } else { i + 1 }
 }
