@@ -6,11 +6,12 @@ use Rattle.std.proofs.lemmas.Bool.{cases_lt, and_parts, cond_below}
 use Rattle.std.proofs.lemmas.Bool.Decides.{nat_tests}
 use Rattle.board.specs.Areas.{area}
 use Rattle.boards.specs.declared.fence.Fence.{Fence}
+use Rattle.boards.specs.declared.fenced.Fenced.{Fenced}
 use Rattle.boards.specs.Below.{all_below}
-use Rattle.boards.specs.Places.{found}
+use Rattle.boards.specs.Places.{found, LiesAt}
 use Rattle.boards.specs.Fences.{nowhere, fence_of, part, parts, within, apart, apart_at, good_fence, sound_fences, fence_place, fence_size}
 use Rattle.boards.proofs.Below.{below_at, neither_before}
-use Rattle.boards.proofs.Laid.{Laid}
+use Rattle.boards.proofs.Laid.{Laid, lies_at}
 
 -- eight empty fences are sound in any memory
 pub empty-sound : (n : ℕ) → sound_fences (replicate 8 nowhere) n ≡ true
@@ -84,3 +85,13 @@ module _ (fences : List Fence) (n : ℕ) (e : length fences ≡ 8) (s : sound_fe
         within = λ i a l. let w = fence_end i a l in omega arith;
         apart = bytes_apart;
       }
+
+-- a fence is as long as its area, and its bytes are that area's
+module _ {n : ℕ} (b : Fenced n) (i : ℕ) (f : Fence) (q : f ≡ fence_of b.fences i) where
+  pub as_long : f.size ≡ length (area (parts b.memory b.fences) i)
+  as_long = ap (λ (x : Fence). x.size) q ∙ sym ((fences_laid b.fences n b.eight b.sound).long b.memory b.whole i)
+
+  pub byte_at : (a : ℕ) → a < f.size → LiesAt (λ m. parts m b.fences) b.memory i a (f.base + a)
+  byte_at a l =
+      let s = as_long in
+      rw q (lies_at (fences_laid b.fences n b.eight b.sound) b.memory b.whole i a (omega arith))

@@ -1,9 +1,9 @@
 -- Areas that lie in one memory, no two bytes at one place: what a load and a store at a place are to the areas.
-use Rattle.std.proofs.Common.{◌≡◌, ℕ, ◌<◌, ◌≤◌, Bool, true, false, cond, ltb, List, [], length, get_or, set, Some, None, Option, sym, refl, ap, ◌∙◌, ⊎_elim, arith, length-set}
+use Rattle.std.proofs.Common.{◌≡◌, ℕ, ◌<◌, ◌≤◌, List, [], length, get_or, set, sym, ap, ◌∙◌, ⊎_elim, arith, length-set}
 use Rattle.std.proofs.lemmas.List.{ext_get_or, get_or-set_same, get_or-set_other, get_or_past}
-use Rattle.std.proofs.lemmas.Bool.{cases_eq, cases_lt, cond-true, cond-false, ltb-true}
-use Rattle.board.specs.Areas.{area, inside, loaded, stored, wrote}
-use Rattle.boards.specs.Places.{found}
+use Rattle.std.proofs.lemmas.Bool.{cases_eq, cases_lt, lt-ltb}
+use Rattle.board.specs.Areas.{area}
+use Rattle.boards.specs.Places.{LiesAt}
 
 -- The areas that `view` sees in a memory of n bytes: area i has `size i` bytes, byte a lies at `place i a`.
 pub record Laid (n : ℕ) (place : ℕ → ℕ → ℕ) (size : ℕ → ℕ) (view : List ℕ → List (List ℕ)) : Type 0 where
@@ -12,15 +12,6 @@ pub record Laid (n : ℕ) (place : ℕ → ℕ → ℕ) (size : ℕ → ℕ) (vi
   pub byte : (memory : List ℕ) (i a : ℕ) → a < size i → get_or (area (view memory) i) a 0 ≡ get_or memory (place i a) 0
   pub within : (i a : ℕ) → a < size i → place i a < n
   pub apart : (i j a c : ℕ) → a < size i → c < size j → place i a ≡ place j c → (i ≡ j) × (a ≡ c)
-
--- what a place found, or none, says of the test
-some-found : (t : Bool) (p q : ℕ) → Some p ≡ cond t (Some q) None → (t ≡ true) × (p ≡ q)
-some-found true p q e = (refl, cc)
-some-found false p q e = let z : ◌≡◌ {A = ℕ} 0 1 = cc in absurd (omega arith)
-
-none_found : (t : Bool) (q : ℕ) → ◌≡◌ {A = Option ℕ} None (cond t (Some q) None) → t ≡ false
-none_found true q e = let z : ◌≡◌ {A = ℕ} 0 1 = cc in absurd (omega arith)
-none_found false q e = refl
 
 module _ {n : ℕ} {place : ℕ → ℕ → ℕ} {size : ℕ → ℕ} {view : List ℕ → List (List ℕ)} (w : Laid n place size view)
     (memory : List ℕ) (e : length memory ≡ n) (i at : ℕ) where
@@ -91,36 +82,15 @@ module _ {n : ℕ} {place : ℕ → ℕ → ℕ} {size : ℕ → ℕ} {view : Li
       area-there b k l z ∙ sym (get_or-set_other (view memory) i k (set (area (view memory) i) at b) [] z))
       (cases_eq k i))
 
-  inside_is : inside (view memory) i at ≡ ltb at (size i)
-  inside_is = ap (ltb at) (w.long memory e i)
-
-  pub loads_some : (p : ℕ) → Some p ≡ found place size i at → Some (get_or memory p 0) ≡ loaded (view memory) i at
-  loads_some p f =
-      let t = some-found (ltb at (size i)) p (place i at) f in
-      ap (λ (q : ℕ). Some (get_or memory q 0)) t.1
-      ∙ ap {B = Option ℕ} (λ x. Some x) (sym (w.byte memory i at (ltb-true at (size i) t.0)))
-      ∙ sym (cond-true (inside (view memory) i at) (Some (get_or (area (view memory) i) at 0)) None (inside_is ∙ t.0))
-
-  pub loads_none : None ≡ found place size i at → None ≡ loaded (view memory) i at
-  loads_none f =
-      sym (cond-false (inside (view memory) i at) (Some (get_or (area (view memory) i) at 0)) None
-      (inside_is ∙ none_found (ltb at (size i)) (place i at) f))
-
-  pub stores_some : (p b : ℕ) → Some p ≡ found place size i at →
-      (Some tt ≡ wrote (view memory) i at) × (view (set memory p b) ≡ stored (view memory) i at b)
-  stores_some p b f =
-      let t = some-found (ltb at (size i)) p (place i at) f in
-      let z = inside_is ∙ t.0 in (
-        sym (cond-true (inside (view memory) i at) (Some tt) None z),
-        ap (λ (q : ℕ). view (set memory q b)) t.1
-            ∙ written b (ltb-true at (size i) t.0)
-            ∙ sym (cond-true (inside (view memory) i at) (set (view memory) i (set (area (view memory) i) at b)) (view memory) z),
-      )
-
-  pub stores_none : (b : ℕ) → None ≡ found place size i at →
-      (None ≡ wrote (view memory) i at) × (view memory ≡ stored (view memory) i at b)
-  stores_none b f =
-      let z = inside_is ∙ none_found (ltb at (size i)) (place i at) f in (
-        sym (cond-false (inside (view memory) i at) (Some tt) None z),
-        sym (cond-false (inside (view memory) i at) (set (view memory) i (set (area (view memory) i) at b)) (view memory) z),
-      )
+  -- so a byte of an area lies at its place
+  pub lies_at : at < length (area (view memory) i) → LiesAt view memory i at (place i at)
+  lies_at h =
+      let s = w.long memory e i in
+      let l : at < size i = omega arith in
+      let p = w.within i at l in
+      record {
+        within = omega arith;
+        there = lt-ltb at (length (area (view memory) i)) h;
+        byte = sym (w.byte memory i at l);
+        written = λ b. written b l;
+      }

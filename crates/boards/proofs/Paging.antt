@@ -4,11 +4,12 @@ use Rattle.std.proofs.lemmas.List.FromFn.{length-map-range_with_len, get_or-map-
 use Rattle.std.proofs.lemmas.List.{get_or_past}
 use Rattle.std.proofs.lemmas.Bool.{cases_lt, and_parts, cond_below, leb-true, lt-ltb, not-true, eqb-false}
 use Rattle.board.specs.Areas.{area}
+use Rattle.boards.specs.declared.paged.Paged.{Paged}
 use Rattle.boards.specs.Below.{all_below}
-use Rattle.boards.specs.Places.{found}
+use Rattle.boards.specs.Places.{found, LiesAt}
 use Rattle.boards.specs.Pages.{page, paged_size, paged_place, paged_byte, paged_area, paged, eight-paged, entry, used, differs, good_entry, fits, sound_pages}
 use Rattle.boards.proofs.Below.{below_at, neither_before}
-use Rattle.boards.proofs.Laid.{Laid}
+use Rattle.boards.proofs.Laid.{Laid, lies_at}
 
 -- eight empty areas are sound in any memory, with any table
 pub empty-sound : (table : List (List ℕ)) (n : ℕ) → sound_pages table (replicate 8 0) n ≡ true
@@ -22,11 +23,14 @@ module _ (table : List (List ℕ)) (sizes : List ℕ) (n : ℕ) (e : length size
   sound : (all_below (good_entry table sizes n) 128 ≡ true) × (all_below (fits sizes) 8 ≡ true)
   sound = and_parts (all_below (good_entry table sizes n) 128) (all_below (fits sizes) 8) s
 
+  most : (i : ℕ) → i < 8 → paged_size sizes i ≤ 1024
+  most i h = leb-true (paged_size sizes i) 1024 (below_at (fits sizes) 8 i sound.1 h)
+
   -- an area with a byte is one of the eight, and not too large
-  pub fitting : (i a : ℕ) → a < paged_size sizes i → (i < 8) × (paged_size sizes i ≤ 1024)
+  fitting : (i a : ℕ) → a < paged_size sizes i → (i < 8) × (paged_size sizes i ≤ 1024)
   fitting i a l =
       ⊎_elim
-      (λ (h : i < 8). (h, leb-true (paged_size sizes i) 1024 (below_at (fits sizes) 8 i sound.1 h)))
+      (λ (h : i < 8). (h, most i h))
       (λ (h : 8 ≤ i). let z = get_or_past sizes i 0 (omega arith) in absurd (omega arith))
       (cases_lt i 8)
 
@@ -105,3 +109,15 @@ module _ (table : List (List ℕ)) (sizes : List ℕ) (n : ℕ) (e : length size
         within = place-within;
         apart = bytes_apart;
       }
+
+module _ {n : ℕ} (b : Paged n) (i : ℕ) where
+  pub not_too_large : i < 8 → paged_size b.sizes i ≤ 1024
+  not_too_large h = most b.table b.sizes n b.eight b.sound i h
+
+  -- a size is that of the area, and the page table finds the area's bytes
+  pub as_long : paged_size b.sizes i ≡ length (area (paged b.memory b.table b.sizes) i)
+  as_long = sym ((pages_laid b.table b.sizes n b.eight b.sound).long b.memory b.whole i)
+
+  pub byte_at : (a : ℕ) → a < length (area (paged b.memory b.table b.sizes) i) →
+      LiesAt (λ m. paged m b.table b.sizes) b.memory i a (paged_place b.table i a)
+  byte_at = lies_at (pages_laid b.table b.sizes n b.eight b.sound) b.memory b.whole i

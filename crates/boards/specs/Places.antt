@@ -1,6 +1,19 @@
--- Areas that lie in one memory.
-use Rattle.std.specs.Prelude.{ℕ, cond, Some, None, Option, nat_lt}
+-- Areas that lie in one memory: `view` sees them in it.
+use Rattle.std.specs.Prelude.{◌≡◌, ℕ, ◌<◌, true, false, cond, List, length, Some, None, Option, nat_lt, slice_index, slice_index_or, slice_set}
+use Rattle.board.specs.Areas.{area, inside}
 
 -- where byte `at` of area i lies in the memory, or none outside the area
 abbrev pub found : (ℕ → ℕ → ℕ) → (ℕ → ℕ) → ℕ → ℕ → Option ℕ
 found place size i at = cond (nat_lt at (size i)) (Some (place i at)) None
+
+-- byte `at` of area i lies at p: the memory has it there, and what is written there replaces it, and nothing else
+pub record LiesAt (view : List ℕ → List (List ℕ)) (memory : List ℕ) (i at p : ℕ) : Type 0 where
+  pub within : p < length memory
+  pub there : inside (view memory) i at ≡ true
+  pub byte : slice_index_or memory p 0 ≡ slice_index (area (view memory) i) at
+  pub written : (b : ℕ) → view (slice_set memory p b) ≡ slice_set (view memory) i (slice_set (area (view memory) i) at b)
+
+-- what a place, or none, says of byte `at` of area i
+abbrev pub Places : (List ℕ → List (List ℕ)) → List ℕ → ℕ → ℕ → Option ℕ → Type 0
+Places view memory i at None = inside (view memory) i at ≡ false
+Places view memory i at (Some p) = LiesAt view memory i at p

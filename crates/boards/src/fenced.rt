@@ -2,7 +2,8 @@
 ghost use Rattle.std.specs.Prelude.{◌≡◌, ◌<◌, true, [], length, replicate, IfSome, if◌then◌else◌};
 ghost use Rattle.std.proofs.Common.{◌∙◌};
 ghost use Rattle.std.proofs.lemmas.List.{length-map};
-ghost use Rattle.boards.specs.Places.{found};
+ghost use Rattle.board.specs.Areas.{area};
+ghost use Rattle.boards.specs.Places.{found, Places};
 ghost use Rattle.boards.specs.Fences.{fence_of, part, parts, sound_fences, fence_place, fence_size};
 
 use crate::fence::Fence;
@@ -36,7 +37,8 @@ impl<const N: usize> Fenced<N> {
 
     // The fence of an area; one that is not there is empty.
     fn fence(&self, i: usize) -> Fence
-        ensures { result ≡ fence_of self.now.fences i }
+        ensures is { result ≡ fence_of self.now.fences i }
+        ensures long { result.size ≡ length (area (parts self.now.memory self.now.fences) i) }
     {
         if i < 8 {
             self.fences[i]
@@ -49,6 +51,7 @@ impl<const N: usize> Fenced<N> {
     fn place(&self, i: usize, at: usize) -> Option<usize>
         ensures is { result ≡ found (fence_place self.now.fences) (fence_size self.now.fences) i at }
         ensures inside { IfSome result (λ p. p < N) }
+        ensures lies { Places (λ m. parts m self.now.fences) self.now.memory i at result }
     {
         let fence = self.fence(i);
         if at < fence.size {

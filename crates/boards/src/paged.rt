@@ -1,6 +1,7 @@
 //! A board whose areas are made of pages of a memory of its own.
-ghost use Rattle.std.specs.Prelude.{◌≡◌, ◌<◌, true, [], length, replicate, IfSome, if◌then◌else◌};
-ghost use Rattle.boards.specs.Places.{found};
+ghost use Rattle.std.specs.Prelude.{◌≡◌, ◌<◌, ◌≤◌, true, [], length, replicate, IfSome, if◌then◌else◌};
+ghost use Rattle.board.specs.Areas.{area};
+ghost use Rattle.boards.specs.Places.{found, Places};
 ghost use Rattle.boards.specs.Pages.{paged, eight-paged, sound_pages, paged_place, paged_size};
 
 use crate::pages::are_sound;
@@ -24,11 +25,7 @@ impl<const N: usize> Paged<N> {
         ensures { paged result.memory result.table result.sizes ≡ (if sound_pages table sizes N then paged memory.entry table sizes else replicate 8 []) }
     {
         if !are_sound(&table, &sizes, N) {
-            return Paged {
-                memory,
-                table,
-                sizes: [0; 8],
-            };
+            return Paged::bare(memory, table);
         }
         Paged {
             memory,
@@ -37,9 +34,23 @@ impl<const N: usize> Paged<N> {
         }
     }
 
+    // A board whose eight areas are empty.
+    fn bare(memory: [u8; N], table: [[u16; 16]; 8]) -> Paged<N>
+        ensures { paged result.memory result.table result.sizes ≡ replicate 8 [] }
+    {
+        Paged {
+            memory,
+            table,
+            sizes: [0; 8],
+        }
+    }
+
     // The size of an area; one that is not there is empty.
     fn size_of(&self, i: usize) -> usize
-        ensures { result ≡ paged_size self.now.sizes i }
+        ensures is { result ≡ paged_size self.now.sizes i }
+        ensures long { result ≡ length (area (paged self.now.memory self.now.table self.now.sizes) i) }
+        ensures fits { result ≤ 1024 }
+        ensures there { 0 < result → i < 8 }
     {
         if i < 8 { self.sizes[i] } else { 0 }
     }
@@ -48,6 +59,7 @@ impl<const N: usize> Paged<N> {
     fn place(&self, i: usize, at: usize) -> Option<usize>
         ensures is { result ≡ found (paged_place self.now.table) (paged_size self.now.sizes) i at }
         ensures inside { IfSome result (λ p. p < N) }
+        ensures lies { Places (λ m. paged m self.now.table self.now.sizes) self.now.memory i at result }
     {
         if at < self.size_of(i) {
             Some(64 * self.table[i][at / 64] as usize + at % 64)

@@ -1,6 +1,14 @@
-use Rattle.std.proofs.Common.{sym, arith}
+use Rattle.std.proofs.Common.{sym, refl, ◌∙◌, arith}
 use Rattle.std.proofs.lemmas.List.{get_or_past}
+use Rattle.boards.proofs.Paging.{not_too_large, as_long}
 use Rattle.boards.proofs.paged.Paged.size_of.Goals as goal
 
+pub returns-then-i-lt8 : goal.returns-then-i-lt8
+returns-then-i-lt8 g c =
+    let b = c.args.self.now in
+    record { is = refl; long = as_long b _; fits = not_too_large b _ c.if-i-lt8.true; there = λ _. c.if-i-lt8.true }
+
 pub returns-else-i-lt8 : goal.returns-else-i-lt8
-returns-else-i-lt8 g c = sym (get_or_past c.args.self.now.sizes c.args.i 0 (omega arith))
+returns-else-i-lt8 g c =
+    let e = sym (get_or_past c.args.self.now.sizes c.args.i 0 (omega arith)) in
+    record { is = e; long = e ∙ as_long c.args.self.now _; fits = omega arith; there = λ h. absurd (omega (arith, h)) }
