@@ -23,6 +23,7 @@ module _ (table : List (List ℕ)) (sizes : List ℕ) (n : ℕ) (e : length size
   sound : (all_below (good_entry table sizes n) 128 ≡ true) × (all_below (fits sizes) 8 ≡ true)
   sound = and_parts (all_below (good_entry table sizes n) 128) (all_below (fits sizes) 8) s
 
+  -- each of the eight areas is not too large
   most : (i : ℕ) → i < 8 → paged_size sizes i ≤ 1024
   most i h = leb-true (paged_size sizes i) 1024 (below_at (fits sizes) 8 i sound.1 h)
 
@@ -110,6 +111,7 @@ module _ (table : List (List ℕ)) (sizes : List ℕ) (n : ℕ) (e : length size
         apart = bytes_apart;
       }
 
+-- what the page table of a board says of an area
 module _ {n : ℕ} (b : Paged n) (i : ℕ) where
   pub not_too_large : i < 8 → paged_size b.sizes i ≤ 1024
   not_too_large h = most b.table b.sizes n b.eight b.sound i h

@@ -131,6 +131,7 @@ impl Queue {
     fn truncate<X: Copy>(&mut self, cells: &[X], n: usize)
         requires sound { Sound self.old cells.now }
         ensures sound { Sound self.new cells.now }
+        ensures few { self.new.count ≤ n }
         ensures is { entries self.new cells.now ≡ take n (entries self.old cells.now) }
     {
         if n < self.count {

@@ -4,8 +4,8 @@ use Rattle.boards.specs.Fences.{nowhere}
 use Rattle.boards.proofs.Fencing.{as_long}
 use Rattle.boards.proofs.fenced.Fenced.fence.Goals as goal
 
-pub returns-then-i-lt8 : goal.returns-then-i-lt8
-returns-then-i-lt8 g c = record { is = refl; long = as_long c.args.self.now c.args.i _ refl }
+pub returns-then-i-lt8-clause-long : goal.returns-then-i-lt8-clause-long
+returns-then-i-lt8-clause-long g c = as_long c.args.self.now c.args.i _ refl
 
 pub returns-else-i-lt8 : goal.returns-else-i-lt8
 returns-else-i-lt8 g c =

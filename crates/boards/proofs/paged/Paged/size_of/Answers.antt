@@ -1,12 +1,13 @@
-use Rattle.std.proofs.Common.{sym, refl, ◌∙◌, arith}
+use Rattle.std.proofs.Common.{sym, ◌∙◌, arith}
 use Rattle.std.proofs.lemmas.List.{get_or_past}
 use Rattle.boards.proofs.Paging.{not_too_large, as_long}
 use Rattle.boards.proofs.paged.Paged.size_of.Goals as goal
 
-pub returns-then-i-lt8 : goal.returns-then-i-lt8
-returns-then-i-lt8 g c =
-    let b = c.args.self.now in
-    record { is = refl; long = as_long b _; fits = not_too_large b _ c.if-i-lt8.true; there = λ _. c.if-i-lt8.true }
+pub returns-then-i-lt8-clause-long : goal.returns-then-i-lt8-clause-long
+returns-then-i-lt8-clause-long g c = as_long c.args.self.now _
+
+pub returns-then-i-lt8-clause-fits : goal.returns-then-i-lt8-clause-fits
+returns-then-i-lt8-clause-fits g c = not_too_large c.args.self.now _ c.if-i-lt8.true
 
 pub returns-else-i-lt8 : goal.returns-else-i-lt8
 returns-else-i-lt8 g c =
