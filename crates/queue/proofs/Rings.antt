@@ -65,10 +65,11 @@ module _ {X : Type 0} where
   pub oldest_is : (h n : ℕ) (cells : List X) (x : X) → h < length cells → 0 < n → n ≤ length cells → x ≡ get_or cells h x → Some x ≡ first (items h n cells)
   oldest_is h n cells x l m r e = ap Some e ∙ sym (ap first (pop_one h n cells x l m r))
 
-  pub other_entries : (q : Queue) (cells : List X) → Sound q cells → 0 < q.count →
-      items (next q.head (length cells)) (q.count - 1) cells ≡ rest (entries q cells)
-  other_entries q [] s m = absurd (omega arith)
-  other_entries q (x ∷ cells) s m = sym (ap rest (pop_one q.head q.count (x ∷ cells) x s.0 m s.1))
+  -- and what follows it are the others
+  pub others_are : (h n k : ℕ) (cells : List X) → h < length cells → 0 < n → n ≤ length cells → k ≡ next h (length cells) →
+      items k (n - 1) cells ≡ rest (items h n cells)
+  others_are h n k [] l m r e = absurd (omega arith)
+  others_are h n k (x ∷ cells) l m r e = rw e (sym (ap rest (pop_one h n (x ∷ cells) x l m r)))
 
   -- the n oldest entries
   pub kept : (q : Queue) (cells : List X) (n : ℕ) → n < q.count → items q.head n cells ≡ take n (entries q cells)

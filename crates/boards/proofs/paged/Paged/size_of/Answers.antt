@@ -1,10 +1,10 @@
-use Rattle.std.proofs.Common.{sym, ◌∙◌, arith}
+use Rattle.std.proofs.Common.{sym, ◌∙◌, arith, rules}
 use Rattle.std.proofs.lemmas.List.{get_or_past}
 use Rattle.boards.proofs.Paging.{not_too_large, as_long}
 use Rattle.boards.proofs.paged.Paged.size_of.Goals as goal
 
 pub returns-then-i-lt8-clause-long : goal.returns-then-i-lt8-clause-long
-returns-then-i-lt8-clause-long g c = as_long c.args.self.now _
+returns-then-i-lt8-clause-long g c = search (rules, as_long c.args.self.now c.args.i)
 
 pub returns-then-i-lt8-clause-fits : goal.returns-then-i-lt8-clause-fits
 returns-then-i-lt8-clause-fits g c = not_too_large c.args.self.now _ c.if-i-lt8.true
