@@ -8,7 +8,7 @@ ghost use Rattle.kernel.specs.World.{core_of, world_of, gives, settled, performe
 
 use crate::whole::System;
 use board::Board;
-use lookup::{mask_of, owner_of};
+use lookup::{is_member, mask_of, owner_of};
 use machine::answer::{Answer, Refusal};
 use machine::event::Args;
 use machine::partition::Partition;
@@ -18,7 +18,7 @@ fn is_named(mask: u8, i: usize) -> bool
     requires { i < 8 }
     ensures { result ≡ bit mask i }
 {
-    mask & (1 << i) != 0
+    is_member(mask, i as u8)
 }
 
 /// Signals bits to a partition, where it is named.
