@@ -7,11 +7,11 @@ use Rattle.machine.specs.declared.event.Event.{Event}
 use Rattle.machine.specs.Answers.{Reply}
 use Rattle.machine.specs.State.{State}
 use Rattle.machine.specs.Step.{step}
-use Rattle.machine.specs.Runs.{lines}
+use Rattle.machine.specs.Runs.{after, lines}
 use Rattle.kernel.specs.World.{World, Moved, gives, stepped}
 use Rattle.script.specs.Format.{first, beyond}
 use Rattle.entrance.specs.Encoding.{bytes_of, encoded, laid, put}
-use Rattle.entrance.specs.Session.{Read, before, read_after, read_of, room_in, count_of, written}
+use Rattle.entrance.specs.Session.{Read, before, read_after, read_of, room_in, count_of, taken, written, reached}
 use Rattle.entrance.proofs.Putting.{put_on}
 use Rattle.entrance.proofs.Reading.{read-then}
 
@@ -26,6 +26,7 @@ pub record Underway (z : World) (records old : List ℕ) (w : World) (rest new :
   pub whole : (read_of rest).whole ≡ (read_of records).whole
   pub counts : count + length (read_of rest).events ≡ length (read_of records).events
   pub bytes : take (12 * count) new ++ laid (told z.tables w.state (take (room_in old - count) (read_of rest).events)) (drop (12 * count) new) ≡ written z (read_of records) old
+  pub state : after z.tables w.state (take (room_in old - count) (read_of rest).events) ≡ after z.tables z.state (taken (read_of records) old)
 
 none_of : (b : Bool) (n : ℕ) → None ≡ cond (b && false) (Some n) None
 none_of true n = refl
@@ -34,7 +35,7 @@ none_of false n = refl
 module _ (z : World) (records old : List ℕ) (w : World) (rest new : List ℕ) (count : ℕ) (u : Underway z records old w rest new count) where
   pub onward : (v : World) (rest' new' : List ℕ) (e : Event) (r : Reply) → count < room_in old → 12 * count + 12 ≤ length new → 0 < length rest →
       first rest ≡ Some e → rest' ≡ beyond 4 rest → gives v r ≡ stepped e w → new' ≡ put (12 * count) (bytes_of r) new → Underway z records old v rest' new' (count + 1)
-  unfolding encoded lines
+  unfolding encoded lines after
   onward v rest' new' e r h i l f b g p =
       let k = z.tables in
       let s : v.state ≡ (step k w.state e).state =
@@ -57,41 +58,51 @@ module _ (z : World) (records old : List ℕ) (w : World) (rest new : List ℕ) 
             ∙ (ap₂ (λ (p : Reply) (s : State). take (12 * count) new ++ laid (bytes_of p ++ told k s es) (drop (12 * count) new)) a s
             ∙ (ap₂ (λ (n : ℕ) (q : Read). take (12 * count) new ++ laid (told k w.state (take n q.events)) (drop (12 * count) new)) (sym n) (sym q)
             ∙ u.bytes)));
+        state =
+            ap (λ (x : State). after k x es) s
+            ∙ (ap₂ (λ (n : ℕ) (q : Read). after k w.state (take n q.events)) (sym n) (sym q)
+            ∙ u.state);
       }
 
-  -- with no event left, the bytes stand
-  stands : take (room_in old - count) (read_of rest).events ≡ [] → new ≡ written z (read_of records) old
-  unfolding encoded lines
-  stands e =
-      sym (take-append-drop (12 * count) new)
-      ∙ (ap (λ (es : List Event). take (12 * count) new ++ laid (told z.tables w.state es) (drop (12 * count) new)) (sym e)
-      ∙ u.bytes)
+  -- with no event left, the bytes and the world stand
+  abbrev Stands : Type 0
+  Stands = (new ≡ written z (read_of records) old) × (w ≡ reached z (read_of records) old)
 
-  pub over : length rest ≡ 0 → (Some count ≡ count_of (read_of records) (room_in old)) × (new ≡ written z (read_of records) old)
+  stands : take (room_in old - count) (read_of rest).events ≡ [] → Stands
+  unfolding encoded lines after
+  stands e = (
+    sym (take-append-drop (12 * count) new)
+        ∙ (ap (λ (es : List Event). take (12 * count) new ++ laid (told z.tables w.state es) (drop (12 * count) new)) (sym e)
+        ∙ u.bytes),
+    ap₂ (λ (k : Tables) (x : State). record { tables = k; state = x }) u.tables (ap (after z.tables w.state) (sym e) ∙ u.state),
+  )
+
+  -- an answer, the bytes and the world
+  abbrev pub Ends : Option ℕ → Type 0
+  Ends o = (o ≡ count_of (read_of records) (room_in old)) × (new ≡ written z (read_of records) old) × (w ≡ reached z (read_of records) old)
+
+  pub over : length rest ≡ 0 → Ends (Some count)
   unfolding read_after
   over l =
       let q : read_of rest ≡ record { events = []; whole = true } = ap read_of (nil_from_length rest l) in
       let y : (read_of records).whole ≡ true = sym u.whole ∙ ap (λ (q : Read). q.whole) q in
       let n : length (read_of records).events ≡ count = omega (arith, ap (λ (q : Read). length q.events) q, u.counts) in
-      let t = le-leb count (room_in old) u.fits in (
-        rw (y, n, t),
-        stands (ap (λ (q : Read). take (room_in old - count) q.events) q ∙ take_all (room_in old - count) [] (omega arith)),
-      )
+      let t = le-leb count (room_in old) u.fits in
+      let b = stands (ap (λ (q : Read). take (room_in old - count) q.events) q ∙ take_all (room_in old - count) [] (omega arith)) in
+      (rw (y, n, t), b.0, b.1)
 
-  pub malformed : 0 < length rest → first rest ≡ None → (None ≡ count_of (read_of records) (room_in old)) × (new ≡ written z (read_of records) old)
+  pub malformed : 0 < length rest → first rest ≡ None → Ends None
   malformed l f =
       let q : read_of rest ≡ record { events = []; whole = false } = read-then rest l ∙ ap (λ (o : Option Event). before o (read_of (beyond 4 rest))) f in
-      let y : (read_of records).whole ≡ false = sym u.whole ∙ ap (λ (q : Read). q.whole) q in (
-        rw y,
-        stands (ap (λ (q : Read). take (room_in old - count) q.events) q ∙ take_all (room_in old - count) [] (omega arith)),
-      )
+      let y : (read_of records).whole ≡ false = sym u.whole ∙ ap (λ (q : Read). q.whole) q in
+      let b = stands (ap (λ (q : Read). take (room_in old - count) q.events) q ∙ take_all (room_in old - count) [] (omega arith)) in
+      (rw y, b.0, b.1)
 
-  pub full : (e : Event) → 0 < length rest → first rest ≡ Some e → count ≡ room_in old → (None ≡ count_of (read_of records) (room_in old)) × (new ≡ written z (read_of records) old)
+  pub full : (e : Event) → 0 < length rest → first rest ≡ Some e → count ≡ room_in old → Ends None
   full e l f h =
       let q = read-then rest l ∙ ap (λ (o : Option Event). before o (read_of (beyond 4 rest))) f in
       let n : room_in old < length (read_of records).events = omega (arith, ap (λ (q : Read). length q.events) q, u.counts) in
       let t = lt-leb (length (read_of records).events) (room_in old) n in
-      let m : room_in old - count ≡ 0 = omega arith in (
-        rw t (none_of (read_of records).whole (length (read_of records).events)),
-        stands (ap (λ (n : ℕ). take n (read_of rest).events) m),
-      )
+      let m : room_in old - count ≡ 0 = omega arith in
+      let b = stands (ap (λ (n : ℕ). take n (read_of rest).events) m) in
+      (rw t (none_of (read_of records).whole (length (read_of records).events)), b.0, b.1)

@@ -1,7 +1,7 @@
 -- What event records say, and what they are answered.
 use Rattle.std.specs.Prelude.{ℕ, zero, suc, ◌+◌, ◌/◌, Bool, true, false, cond, ◌&&◌, List, [], ◌∷◌, length, take, Some, None, Option, nat_le}
 use Rattle.machine.specs.declared.event.Event.{Event}
-use Rattle.machine.specs.Runs.{lines}
+use Rattle.machine.specs.Runs.{after, lines}
 use Rattle.kernel.specs.World.{World}
 use Rattle.script.specs.Format.{short_at, first}
 use Rattle.entrance.specs.Encoding.{encoded, laid}
@@ -37,6 +37,14 @@ abbrev pub number_of : Option ℕ → ℕ
 number_of None = 18446744073709551615
 number_of (Some n) = n
 
--- the answers to the events that there is room for, and the old bytes after them
+-- the events that are taken: those that there is room to answer
+abbrev pub taken : Read → List ℕ → List Event
+taken r old = take (room_in old) r.events
+
+-- their answers, and the old bytes after them
 abbrev pub written : World → Read → List ℕ → List ℕ
-written w r old = laid (encoded (lines w.tables w.state (take (room_in old) r.events))) old
+written w r old = laid (encoded (lines w.tables w.state (taken r old))) old
+
+-- where they bring the world
+abbrev pub reached : World → Read → List ℕ → World
+reached w r old = record { tables = w.tables; state = after w.tables w.state (taken r old) }

@@ -5,7 +5,7 @@ ghost use Rattle.std.specs.Prelude.{◌≡◌, if◌then◌else◌, None};
 ghost use Rattle.vector.specs.Reading.{takes, tables as tables_of};
 ghost use Rattle.kernel.specs.World.{world_of, booted};
 ghost use Rattle.stage.specs.Layouts.{zeroed};
-ghost use Rattle.entrance.specs.Session.{read_of, room_in, count_of, number_of, written};
+ghost use Rattle.entrance.specs.Session.{read_of, room_in, count_of, number_of, written, reached};
 
 use crate::encoding::write_answer;
 use board::Board;
@@ -22,6 +22,7 @@ mod encoding;
 fn answer_all<B: Board>(system: &mut System<B>, records: &[u8], answers: &mut [u8]) -> Option<usize>
     ensures count { result ≡ count_of (read_of records.now) (room_in answers.old) }
     ensures bytes { answers.new ≡ written (world_of B.areas system.old) (read_of records.now) answers.old }
+    ensures world { world_of B.areas system.new ≡ reached (world_of B.areas system.old) (read_of records.now) answers.old }
 {
     let room = answers.len() / 12;
     let mut rest = records;

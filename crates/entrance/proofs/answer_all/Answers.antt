@@ -7,13 +7,13 @@ pub returns-in_err-cut : goal.returns-in_err-cut
 returns-in_err-cut g c =
     let some : 0 < length c.loop-rest.rest.now = omega (arith, false-eqb _ 0 c.loop-rest-test.ensures) in
     let z = malformed _ _ _ _ _ _ _ c.loop-rest.invariant some c.in_err-cut.ensures in
-    record { count = c.from_residual.ensures ∙ z.0; bytes = z.1 }
+    record { count = c.from_residual.ensures ∙ z.0; bytes = z.1; world = z.2 }
 
 pub returns-then-count-room : goal.returns-then-count-room
 returns-then-count-room g c =
     let some : 0 < length c.loop-rest.rest.now = omega (arith, false-eqb _ 0 c.loop-rest-test.ensures) in
     let z = full _ _ _ _ _ _ _ c.loop-rest.invariant _ some c.in_ok-cut.ensures.0 c.if-count-room.true in
-    record { count = z.0; bytes = z.1 }
+    record { count = z.0; bytes = z.1; world = z.2 }
 
 pub loop-rest-smaller : goal.loop-rest-smaller
 loop-rest-smaller g c =
@@ -29,4 +29,4 @@ loop-rest-preserved g c =
 pub returns : goal.returns
 returns g c =
     let z = over _ _ _ _ _ _ _ c.loop-rest.invariant (true-eqb _ 0 c.loop-rest-test.ensures) in
-    record { count = z.0; bytes = z.1 }
+    record { count = z.0; bytes = z.1; world = z.2 }
