@@ -10,7 +10,7 @@ use Rattle.vector.specs.Ranges.{In, Mask}
 use Rattle.vector.specs.Rows.{linked, answering}
 use Rattle.vector.specs.declared.tables.Name.{Name}
 use Rattle.vector.specs.declared.tables.PartitionRow.{PartitionRow}
-use Rattle.vector.specs.declared.tables.Partitions.{Partitions}
+use Rattle.vector.specs.Tables.{Partitions}
 use Rattle.vector.specs.declared.tables.Response.{Response}
 use Rattle.vector.proofs.Lists.{one_more, replaced, all_alike, pairs_more, same-part, none_passes}
 

@@ -7,15 +7,15 @@ use Rattle.vector.specs.Laws.{slot_at, SlotInPlace}
 use Rattle.vector.specs.Ranges.{In}
 use Rattle.vector.specs.Rows.{plan_with, placed, end_of, slot_end}
 use Rattle.vector.specs.declared.tables.Plan.{Plan}
-use Rattle.vector.specs.declared.tables.Plans.{Plans}
+use Rattle.vector.specs.Tables.{Plans}
 use Rattle.vector.specs.declared.tables.Slot.{Slot}
 use Rattle.vector.proofs.Lists.{one_more, replaced}
 
 pub record FitPlan (n : ℕ) (p : Plan) : Type 0 where
   pub frame : In 1 1000000 p.frame
-  pub few : p.count ≤ 16
-  pub size : length p.slots ≡ 16
-  pub each : (j : ℕ) → j < p.count → SlotInPlace n p j
+  pub few : p.slots.count ≤ 16
+  pub size : length p.slots.rows ≡ 16
+  pub each : (j : ℕ) → j < p.slots.count → SlotInPlace n p j
 
 pub record FitPlans (n : ℕ) (ps : Plans) : Type 0 where
   pub size : length ps.rows ≡ 4
@@ -28,24 +28,24 @@ fit-plan n ps g f h x =
     record { size = length-set _ _ _ ∙ f.size; each = one_more (λ _. FitPlan n) ps.rows ps.count (plan_with g) plan0 lt f.each new }
 
 -- every slot ends at or before the end of the last one
-ends_last : (n : ℕ) (p : Plan) → FitPlan n p → (i : ℕ) → i < p.count → slot_end (slot_at i p) ≤ end_of p
+ends_last : (n : ℕ) (p : Plan) → FitPlan n p → (i : ℕ) → i < p.slots.count → slot_end (slot_at i p) ≤ end_of p
 ends_last n p f i h =
-    let k = p.count - 1 in
+    let k = p.slots.count - 1 in
     let last = f.each k (omega arith) in
-    let is : end_of p ≡ slot_end (slot_at k p) = cond-false (eqb p.count 0) 0 (slot_end (slot_at k p)) (ne_eqb p.count 0 (λ e. omega arith)) in
+    let is : end_of p ≡ slot_end (slot_at k p) = cond-false (eqb p.slots.count 0) 0 (slot_end (slot_at k p)) (ne_eqb p.slots.count 0 (λ e. omega arith)) in
     elim (cases_eq i k) [
       | inl e ↦ subst (λ j. slot_end (slot_at j p) ≤ end_of p) (sym e) (omega (arith, is))
       | inr ne ↦ let b : slot_end (slot_at i p) ≤ (slot_at k p).start = last.ascends i (omega (arith, ne)) in omega (arith, is)
     ]
 
-module _ (n : ℕ) (p : Plan) (x : Slot) (f : FitPlan n p) (h : p.count < 16) where
-  old_slot : (i : ℕ) → i < p.count → slot_at i (placed x p) ≡ slot_at i p
-  old_slot i l = get_or-set_other p.slots p.count i x slot0 (λ e. omega arith)
+module _ (n : ℕ) (p : Plan) (x : Slot) (f : FitPlan n p) (h : p.slots.count < 16) where
+  old_slot : (i : ℕ) → i < p.slots.count → slot_at i (placed x p) ≡ slot_at i p
+  old_slot i l = get_or-set_other p.slots.rows p.slots.count i x slot0 (λ e. omega arith)
 
-  new_slot : slot_at p.count (placed x p) ≡ x
-  new_slot = get_or-set_same p.slots p.count x slot0 (omega (arith, f.size))
+  new_slot : slot_at p.slots.count (placed x p) ≡ x
+  new_slot = get_or-set_same p.slots.rows p.slots.count x slot0 (omega (arith, f.size))
 
-  old_in_place : (j : ℕ) → j < p.count → SlotInPlace n (placed x p) j
+  old_in_place : (j : ℕ) → j < p.slots.count → SlotInPlace n (placed x p) j
   old_in_place j l =
       let o = f.each j l in
       let e = old_slot j l in
@@ -56,7 +56,7 @@ module _ (n : ℕ) (p : Plan) (x : Slot) (f : FitPlan n p) (h : p.count < 16) wh
         ends = subst (λ (y : Slot). slot_end y ≤ p.frame) (sym e) o.ends;
       }
 
-  new_in_place : x.partition < n → 1 ≤ x.duration → end_of p ≤ x.start → slot_end x ≤ p.frame → SlotInPlace n (placed x p) p.count
+  new_in_place : x.partition < n → 1 ≤ x.duration → end_of p ≤ x.start → slot_end x ≤ p.frame → SlotInPlace n (placed x p) p.slots.count
   new_in_place a b c d =
       let e = new_slot in
       record {
@@ -72,13 +72,13 @@ module _ (n : ℕ) (p : Plan) (x : Slot) (f : FitPlan n p) (h : p.count < 16) wh
         frame = f.frame;
         few = omega arith;
         size = length-set _ _ _ ∙ f.size;
-        each = λ j l. elim (cases_eq j p.count) [
+        each = λ j l. elim (cases_eq j p.slots.count) [
           | inl e ↦ subst (SlotInPlace n (placed x p)) (sym e) (new_in_place a b c d)
           | inr ne ↦ old_in_place j (omega (arith, ne))
         ];
       }
 
-pub fit-slot : (n : ℕ) (ps : Plans) (x : Slot) → FitPlans n ps → 1 ≤ ps.count → (get_or ps.rows (ps.count - 1) plan0).count < 16 → x.partition < n → 1 ≤ x.duration →
+pub fit-slot : (n : ℕ) (ps : Plans) (x : Slot) → FitPlans n ps → 1 ≤ ps.count → (get_or ps.rows (ps.count - 1) plan0).slots.count < 16 → x.partition < n → 1 ≤ x.duration →
     end_of (get_or ps.rows (ps.count - 1) plan0) ≤ x.start → slot_end x ≤ (get_or ps.rows (ps.count - 1) plan0).frame →
     FitPlans n (record { count = ps.count; rows = set ps.rows (ps.count - 1) (placed x (get_or ps.rows (ps.count - 1) plan0)) })
 fit-slot n ps x f h k a b c d =

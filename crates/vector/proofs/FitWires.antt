@@ -10,10 +10,9 @@ use Rattle.vector.specs.Laws.{channel_at, port_at, ports_of}
 use Rattle.vector.specs.Names.{same_name, clash, clashes}
 use Rattle.vector.specs.Rows.{open_channel, ported, add_channel, add_port}
 use Rattle.vector.specs.declared.tables.Channel.{Channel}
-use Rattle.vector.specs.declared.tables.Channels.{Channels}
+use Rattle.vector.specs.Tables.{Channels, Ports}
 use Rattle.vector.specs.declared.tables.Direction.TheVariants.{Source, Destination}
 use Rattle.vector.specs.declared.tables.Port.{Port}
-use Rattle.vector.specs.declared.tables.Ports.{Ports}
 use Rattle.vector.specs.declared.tables.Tables.{Tables}
 use Rattle.vector.proofs.Lists.{one_more, replaced, changed, pairs_more, none_passes}
 use Rattle.vector.proofs.FitPartitions.{same-name}

@@ -20,7 +20,7 @@ use Rattle.vector.specs.declared.tables.ChannelKind.TheVariants.{Sampling, Queui
 use Rattle.vector.specs.declared.tables.Class.TheVariants.{Standard}
 use Rattle.vector.specs.declared.tables.PartitionRow.{PartitionRow}
 use Rattle.vector.specs.declared.tables.Plan as plans
-use Rattle.vector.specs.declared.tables.Plans.{Plans}
+use Rattle.vector.specs.Tables.{Plans}
 use Rattle.vector.specs.declared.tables.Slot as slots
 use Rattle.vector.proofs.Lists.{replaced, all_alike}
 use Rattle.vector.proofs.Told.{Told}
@@ -37,7 +37,7 @@ Owner n o = (p : ℕ) → o ≡ Some p → p < n
 
 -- a plan has a slot, or is the last record
 abbrev Begun : Option Kind → Plans → Type 0
-Begun last ps = (i : ℕ) → i < ps.count → (1 ≤ (get_or ps.rows i plan0).count) ⊎ ((i + 1 ≡ ps.count) × (last ≡ Some Plan))
+Begun last ps = (i : ℕ) → i < ps.count → (1 ≤ (get_or ps.rows i plan0).slots.count) ⊎ ((i + 1 ≡ ps.count) × (last ≡ Some Plan))
 
 -- once there is a header, one partition and one plan or more are promised; and the rows that came are lawful
 pub record Fit (s : Sofar) : Type 0 where
@@ -67,18 +67,18 @@ begun-plan l ps g f b i h =
     elim (cases_eq i ps.count) [
       | inl e ↦ inr (omega arith, refl)
       | inr ne ↦ let lt : i < ps.count = omega (arith, ne) in
-          inl (subst (λ (p : plans.Plan). 1 ≤ p.count) (sym (get_or-set_other ps.rows ps.count i (plan_with g) plan0 ne)) (only_begun i lt))
+          inl (subst (λ (p : plans.Plan). 1 ≤ p.slots.count) (sym (get_or-set_other ps.rows ps.count i (plan_with g) plan0 ne)) (only_begun i lt))
     ]
   where
-    only_begun : (i : ℕ) → i < ps.count → 1 ≤ (get_or ps.rows i plan0).count
+    only_begun : (i : ℕ) → i < ps.count → 1 ≤ (get_or ps.rows i plan0).slots.count
     only_begun i h = elim (b i h) [ inl o ↦ o | inr e ↦ absurd (false≢true (subst (λ (x : Option Kind). follows Plan x ≡ true) e.1 f)) ]
 
-begun-slot : (l : Option Kind) (ps : Plans) (p : plans.Plan) → 1 ≤ ps.count → ps.count - 1 < length ps.rows → 1 ≤ p.count → Begun l ps → Begun (Some Slot) (record { count = ps.count; rows = set ps.rows (ps.count - 1) p })
+begun-slot : (l : Option Kind) (ps : Plans) (p : plans.Plan) → 1 ≤ ps.count → ps.count - 1 < length ps.rows → 1 ≤ p.slots.count → Begun l ps → Begun (Some Slot) (record { count = ps.count; rows = set ps.rows (ps.count - 1) p })
 begun-slot l ps p h z o b i k =
     elim (b i k) [
-      | inl old ↦ inl (replaced (λ (q : plans.Plan). 1 ≤ q.count) ps.rows (ps.count - 1) i p plan0 (λ _. o) old)
+      | inl old ↦ inl (replaced (λ (q : plans.Plan). 1 ≤ q.slots.count) ps.rows (ps.count - 1) i p plan0 (λ _. o) old)
       | inr e ↦ inl (let j : ps.count - 1 ≡ i = omega (arith, e.0) in
-          subst (λ n. 1 ≤ (get_or (set ps.rows (ps.count - 1) p) n plan0).count) j (subst (λ (q : plans.Plan). 1 ≤ q.count) (sym (get_or-set_same ps.rows (ps.count - 1) p plan0 z)) o))
+          subst (λ n. 1 ≤ (get_or (set ps.rows (ps.count - 1) p) n plan0).slots.count) j (subst (λ (q : plans.Plan). 1 ≤ q.slots.count) (sym (get_or-set_same ps.rows (ps.count - 1) p plan0 z)) o))
     ]
 
 module _ (s : Sofar) where

@@ -11,10 +11,9 @@ use Rattle.vector.specs.Turns.{follows, ready, has_plans, has_ports, in_turn}
 use Rattle.vector.specs.declared.record.Kind.{Kind}
 use Rattle.vector.specs.declared.record.Kind.TheVariants.{Partition, Plan, Slot, Channel, Port, Ipvi}
 use Rattle.vector.specs.declared.sofar.Sofar.{Sofar}
-use Rattle.vector.specs.declared.tables.Channels.{Channels}
+use Rattle.vector.specs.Tables.{Channels, Ports}
 use Rattle.vector.specs.declared.tables.Class.{Class}
 use Rattle.vector.specs.declared.tables.Direction.{Direction}
-use Rattle.vector.specs.declared.tables.Ports.{Ports}
 use Rattle.vector.specs.declared.tables.Slot as slots
 use Rattle.vector.proofs.Told.{Told}
 use Rattle.vector.proofs.Joined.{after, Related}

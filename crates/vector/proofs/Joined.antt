@@ -34,7 +34,7 @@ after s (action c e a l) = with_given (giving c e s.given) (with_tables Action (
 
 -- a slot fits behind the slots of a plan
 abbrev pub Admitted : plans.Plan → slots.Slot → Type 0
-Admitted p x = (p.count < 16) × (end_of p ≤ x.start) × (slot_end x ≤ p.frame)
+Admitted p x = (p.slots.count < 16) × (end_of p ≤ x.start) × (slot_end x ≤ p.frame)
 
 -- the relations of a record to those before it
 abbrev pub Related : Sofar → Said → Type 0
@@ -51,9 +51,9 @@ Related s (action c e a l) = is_given c e s.given ≡ false
 admitted-fine : (at : ℕ) (p : plans.Plan) (x : slots.Slot) (u : Unit {0}) → admitted at p x ≡ fine u → Admitted p x
 admitted-fine at p x u e =
     let fits = leb (end_of p) x.start && leb (slot_end x) p.frame in
-    let a = cond-bad (leb 16 p.count) (cond fits (fine tt) (bad (misplaced at))) (too_many at) u e in
+    let a = cond-bad (leb 16 p.slots.count) (cond fits (fine tt) (bad (misplaced at))) (too_many at) u e in
     let b = and_parts (leb (end_of p) x.start) (leb (slot_end x) p.frame) (cond-fine fits (fine tt) (misplaced at) u a.1).0 in
-    (leb-false 16 p.count a.0, leb-true _ _ b.0, leb-true _ _ b.1)
+    (leb-false 16 p.slots.count a.0, leb-true _ _ b.0, leb-true _ _ b.1)
 
 module _ (at : ℕ) (s t : Sofar) where
   -- a test that a record has to fail
@@ -83,7 +83,7 @@ module _ (at : ℕ) (s t : Sofar) where
 fine-admitted : (at : ℕ) (p : plans.Plan) (x : slots.Slot) → Admitted p x → admitted at p x ≡ fine tt
 fine-admitted at p x h =
     let fits = leb (end_of p) x.start && leb (slot_end x) p.frame in
-    cond-false (leb 16 p.count) (bad (too_many at)) (cond fits (fine tt) (bad (misplaced at))) (lt-leb 16 p.count h.0)
+    cond-false (leb 16 p.slots.count) (bad (too_many at)) (cond fits (fine tt) (bad (misplaced at))) (lt-leb 16 p.slots.count h.0)
     ∙ cond-true fits (fine tt) (bad (misplaced at)) (and_from (leb (end_of p) x.start) (leb (slot_end x) p.frame) (le-leb _ _ h.1) (le-leb _ _ h.2))
 
 module _ (at : ℕ) (s : Sofar) where

@@ -68,7 +68,7 @@ module _ (s : Sofar) (r : Room s) (f : Fit s) (e : settled s ≡ true) where
         λ i p q. let o = f.lines i p q in omega (arith, r.0.0.0),
       )
 
-  pub has_slot : (i : ℕ) → i < s.tables.plans.count → 1 ≤ (plan_at i s.tables).count
+  pub has_slot : (i : ℕ) → i < s.tables.plans.count → 1 ≤ (plan_at i s.tables).slots.count
   has_slot i h = elim (f.begun i h) [ inl o ↦ o | inr z ↦ absurd (false≢true (subst (λ (l : Option Kind). ends l ≡ true) z.1 ended.0)) ]
 
   has_two : (c : ℕ) → c < s.tables.channels.count → 2 ≤ (channel_at c s.tables).ports

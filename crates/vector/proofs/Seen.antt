@@ -13,14 +13,11 @@ use Rattle.vector.specs.declared.record.Scope.{Scope}
 use Rattle.vector.specs.declared.record.Scope.TheVariants as scopes
 use Rattle.vector.specs.declared.sofar.Given.{Given}
 use Rattle.vector.specs.declared.tables.Channel.{Channel}
-use Rattle.vector.specs.declared.tables.Channels.{Channels}
 use Rattle.vector.specs.declared.tables.Direction.{Direction}
 use Rattle.vector.specs.declared.tables.PartitionRow.{PartitionRow}
-use Rattle.vector.specs.declared.tables.Partitions.{Partitions}
+use Rattle.vector.specs.Tables.{Partitions, Plans, Channels, Ports}
 use Rattle.vector.specs.declared.tables.Plan.{Plan}
-use Rattle.vector.specs.declared.tables.Plans.{Plans}
 use Rattle.vector.specs.declared.tables.Port.{Port}
-use Rattle.vector.specs.declared.tables.Ports.{Ports}
 use Rattle.vector.specs.declared.tables.Slot.{Slot}
 use Rattle.vector.proofs.Lists.{replaced, changed, all_alike, same-part}
 use Rattle.vector.proofs.Anys.{or_assoc, any_more, any-set, padded-same}
@@ -50,7 +47,7 @@ still-partitions ps t q v f e = record {
 
 abbrev SeenPlan : List PlanIn → Plan → Type 0
 SeenPlan [] o = Unit {0}
-SeenPlan (p ∷ ps) o = (o.frame ≡ p.frame) × (o.count ≡ length p.slots) × (end_of o ≡ end_of_last p.slots)
+SeenPlan (p ∷ ps) o = (o.frame ≡ p.frame) × (o.slots.count ≡ length p.slots) × (end_of o ≡ end_of_last p.slots)
 
 pub record SeenPlans (ps : List PlanIn) (t : Plans) : Type 0 where
   pub count : t.count ≡ length ps
@@ -63,14 +60,14 @@ seen-plan ps t f g h =
     let e : get_or (set t.rows t.count (plan_with f)) (t.count + 1 - 1) plan0 ≡ plan_with f = ap (λ i. get_or (set t.rows t.count (plan_with f)) i plan0) k ∙ get_or-set_same t.rows t.count (plan_with f) plan0 h in
     record { count = omega (arith, g.count); opened = subst (SeenPlan (record { frame = f; slots = [] } ∷ ps)) (sym e) (refl, refl, refl) }
 
-end_placed : (o : Plan) (x : Slot) → o.count < length o.slots → end_of (placed x o) ≡ slot_end x
+end_placed : (o : Plan) (x : Slot) → o.slots.count < length o.slots.rows → end_of (placed x o) ≡ slot_end x
 end_placed o x h =
-    let k : o.count + 1 - 1 ≡ o.count = omega arith in
-    cond-false (eqb (o.count + 1) 0) 0 _ (ne_eqb (o.count + 1) 0 (λ e. omega arith))
-    ∙ ap slot_end (ap (λ i. get_or (set o.slots o.count x) i slot0) k ∙ get_or-set_same o.slots o.count x slot0 h)
+    let k : o.slots.count + 1 - 1 ≡ o.slots.count = omega arith in
+    cond-false (eqb (o.slots.count + 1) 0) 0 _ (ne_eqb (o.slots.count + 1) 0 (λ e. omega arith))
+    ∙ ap slot_end (ap (λ i. get_or (set o.slots.rows o.slots.count x) i slot0) k ∙ get_or-set_same o.slots.rows o.slots.count x slot0 h)
 
 pub seen-slot : (p : PlanIn) (ps : List PlanIn) (t : Plans) (x : Slot) → SeenPlans (p ∷ ps) t → t.count - 1 < length t.rows →
-    (get_or t.rows (t.count - 1) plan0).count < length (get_or t.rows (t.count - 1) plan0).slots →
+    (get_or t.rows (t.count - 1) plan0).slots.count < length (get_or t.rows (t.count - 1) plan0).slots.rows →
     SeenPlans (record { frame = p.frame; slots = x ∷ p.slots } ∷ ps) (record { count = t.count; rows = set t.rows (t.count - 1) (placed x (get_or t.rows (t.count - 1) plan0)) })
 seen-slot p ps t x g h l =
     let o = get_or t.rows (t.count - 1) plan0 in

@@ -15,10 +15,9 @@ use Rattle.vector.specs.declared.record.Kind.TheVariants.{Header, Partition, Pla
 use Rattle.vector.specs.declared.record.Scope.{Scope}
 use Rattle.vector.specs.declared.record.Scope.TheVariants as scopes
 use Rattle.vector.specs.declared.sofar.Sofar.{Sofar}
-use Rattle.vector.specs.declared.tables.Channels.{Channels}
+use Rattle.vector.specs.Tables.{Channels, Ports}
 use Rattle.vector.specs.declared.tables.Direction.{Direction}
 use Rattle.vector.specs.declared.tables.Direction.TheVariants.{Source, Destination}
-use Rattle.vector.specs.declared.tables.Ports.{Ports}
 use Rattle.vector.specs.declared.tables.Slot as slots
 use Rattle.vector.proofs.Joined.{after, Related}
 use Rattle.vector.proofs.Rooms.{in_scope}
@@ -157,7 +156,7 @@ module _ (n m : ℕ) (s : Sofar) where
         let o = f.plans.opened in
         (le-leb 1 _ (omega (arith, f.plans.count)), (omega (arith, f.count, r.1), r.2, r.3), (omega (arith, o.1, r.0), omega (arith, o.2, r.4), omega (arith, o.0, r.5)))
 
-    pub slot_seen : (x : slots.Slot) → Room s → Fit s → (open_plan s.tables).count < 16 → Seen (stage n m ps (record { frame = p.frame; slots = x ∷ p.slots } ∷ pls) [] [] [] []) (after s (said_slot x))
+    pub slot_seen : (x : slots.Slot) → Room s → Fit s → (open_plan s.tables).slots.count < 16 → Seen (stage n m ps (record { frame = p.frame; slots = x ∷ p.slots } ∷ pls) [] [] [] []) (after s (said_slot x))
     slot_seen x r w h =
         let k : s.tables.plans.count - 1 < s.tables.plans.count = omega (arith, f.plans.count) in
         record {

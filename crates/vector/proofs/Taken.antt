@@ -23,7 +23,7 @@ use Rattle.vector.specs.declared.record.Scope.TheVariants as scopes
 use Rattle.vector.specs.declared.sofar.Sofar.{Sofar}
 use Rattle.vector.specs.declared.tables.Class.TheVariants.{Standard}
 use Rattle.vector.specs.declared.tables.PartitionRow.{PartitionRow}
-use Rattle.vector.specs.declared.tables.Plans.{Plans}
+use Rattle.vector.specs.Tables.{Plans}
 use Rattle.vector.proofs.Outs.{then-fine, cond-fine}
 use Rattle.vector.proofs.Lists.{all_alike}
 use Rattle.vector.proofs.Cuts.{cut_off}
@@ -115,7 +115,7 @@ consumed zero at s t (b ∷ bs) pre room fit y c e =
     (subst (λ (l : List ℕ). Consumed l t) whole rest.0, rest.1)
 
 -- each plan has a slot, where the last has
-slots-all : (ps : List PlanIn) (t : Plans) → SeenPlans ps t → (1 ≤ t.count → 1 ≤ (get_or t.rows (t.count - 1) plan0).count) → Each HasSlot (earlier ps) → Each HasSlot ps
+slots-all : (ps : List PlanIn) (t : Plans) → SeenPlans ps t → (1 ≤ t.count → 1 ≤ (get_or t.rows (t.count - 1) plan0).slots.count) → Each HasSlot (earlier ps) → Each HasSlot ps
 slots-all [] t f one h = tt
 slots-all (p ∷ ps) t f one h = (let o = one (omega (arith, f.count)) in omega (arith, f.opened.1), h)
 

@@ -25,7 +25,7 @@ abbrev pub slot0 : Slot
 slot0 = record { partition = 0; start = 0; duration = 0 }
 
 abbrev pub plan0 : Plan
-plan0 = record { frame = 0; count = 0; slots = [] }
+plan0 = record { frame = 0; slots = record { count = 0; rows = [] } }
 
 abbrev pub channel0 : Channel
 channel0 = record { kind = Sampling; longest = 0; depth = 0; ports = 0 }

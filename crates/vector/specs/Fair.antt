@@ -5,13 +5,13 @@ use Rattle.vector.specs.declared.tables.ChannelKind.TheVariants.{Queuing}
 use Rattle.vector.specs.declared.tables.Direction.TheVariants.{Source, Destination}
 use Rattle.vector.specs.declared.tables.Channel.{Channel}
 use Rattle.vector.specs.declared.tables.Plan.{Plan}
-use Rattle.vector.specs.declared.tables.Plans.{Plans}
+use Rattle.vector.specs.Tables.{Plans}
 use Rattle.vector.specs.declared.tables.Port.{Port}
 use Rattle.vector.specs.declared.tables.Tables.{Tables}
 
 -- each slot of a plan ends within its frame
 abbrev pub Within : Plan → Type 0
-Within p = (j : ℕ) → j < p.count → (get_or p.slots j slot0).start + (get_or p.slots j slot0).duration ≤ p.frame
+Within p = (j : ℕ) → j < p.slots.count → (get_or p.slots.rows j slot0).start + (get_or p.slots.rows j slot0).duration ≤ p.frame
 
 abbrev pub AllWithin : Plans → Type 0
 AllWithin ps = (i : ℕ) → i < ps.count → Within (slice_index_or ps.rows i plan0)

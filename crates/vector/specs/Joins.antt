@@ -29,7 +29,7 @@ joined_partition at s row =
 -- a plan has at most 16 slots, each begins at or after the last one's end, and ends within the frame
 abbrev pub admitted : ℕ → plans.Plan → slots.Slot → Out (Unit {0})
 admitted at p x =
-    cond (nat_le 16 p.count) (bad (too_many at))
+    cond (nat_le 16 p.slots.count) (bad (too_many at))
     (cond (nat_le (end_of p) x.start && nat_le (slot_end x) p.frame) (fine tt) (bad (misplaced at)))
 
 abbrev pub joined_slot : ℕ → Sofar → slots.Slot → Out Sofar

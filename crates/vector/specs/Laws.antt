@@ -22,7 +22,7 @@ abbrev pub plan_at : ℕ → Tables → Plan
 plan_at i t = slice_index_or t.plans.rows i plan0
 
 abbrev pub slot_at : ℕ → Plan → Slot
-slot_at j p = slice_index_or p.slots j slot0
+slot_at j p = slice_index_or p.slots.rows j slot0
 
 abbrev pub channel_at : ℕ → Tables → Channel
 channel_at c t = slice_index_or t.channels.rows c channel0
@@ -48,7 +48,7 @@ pub record SlotInPlace (n : ℕ) (p : Plan) (j : ℕ) : Type 0 where
 
 -- each plan has a slot, and all its slots are in place
 abbrev pub SlotsInPlace : Tables → Type 0
-SlotsInPlace t = (i : ℕ) → i < t.plans.count → (1 ≤ (plan_at i t).count) × ((j : ℕ) → j < (plan_at i t).count → SlotInPlace t.partitions.count (plan_at i t) j)
+SlotsInPlace t = (i : ℕ) → i < t.plans.count → (1 ≤ (plan_at i t).slots.count) × ((j : ℕ) → j < (plan_at i t).slots.count → SlotInPlace t.partitions.count (plan_at i t) j)
 
 -- a port is of a partition and a channel that are there
 abbrev pub PortsBelong : Tables → Type 0

@@ -1,5 +1,6 @@
 pub mod Blank
 pub mod Sound
+pub mod Tables
 pub mod Reasons
 pub mod Out
 pub mod Frames

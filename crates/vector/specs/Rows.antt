@@ -9,14 +9,11 @@ use Rattle.vector.specs.declared.tables.Direction.TheVariants.{Source}
 use Rattle.vector.specs.declared.tables.Name.{Name}
 use Rattle.vector.specs.declared.tables.Response.{Response}
 use Rattle.vector.specs.declared.tables.PartitionRow.{PartitionRow}
-use Rattle.vector.specs.declared.tables.Partitions.{Partitions}
+use Rattle.vector.specs.Tables.{Partitions, Plans, Channels, Ports}
 use Rattle.vector.specs.declared.tables.Slot.{Slot}
 use Rattle.vector.specs.declared.tables.Plan.{Plan}
-use Rattle.vector.specs.declared.tables.Plans.{Plans}
 use Rattle.vector.specs.declared.tables.Channel.{Channel}
-use Rattle.vector.specs.declared.tables.Channels.{Channels}
 use Rattle.vector.specs.declared.tables.Port.{Port}
-use Rattle.vector.specs.declared.tables.Ports.{Ports}
 use Rattle.vector.specs.declared.tables.Tables.{Tables}
 
 -- rows that are not there yet
@@ -30,7 +27,7 @@ row_of c z n = record { class = c; size = z; name = n; responses = defaults; lin
 
 -- a plan without slots
 abbrev pub plan_with : ℕ → Plan
-plan_with f = record { frame = f; count = 0; slots = replicate 16 slot0 }
+plan_with f = record { frame = f; slots = record { count = 0; rows = replicate 16 slot0 } }
 
 -- a channel without ports
 abbrev pub channel_with : ChannelKind → ℕ → ℕ → Channel
@@ -84,7 +81,7 @@ open_plan t = slice_index_or t.plans.rows (t.plans.count - 1) plan0
 
 -- one slot more in a plan
 abbrev pub placed : Slot → Plan → Plan
-placed x p = record { frame = p.frame; count = p.count + 1; slots = slice_set p.slots p.count x }
+placed x p = record { frame = p.frame; slots = record { count = p.slots.count + 1; rows = slice_set p.slots.rows p.slots.count x } }
 
 -- one slot more in the plan that was added last
 abbrev pub add_slot : Slot → Tables → Tables
@@ -96,7 +93,7 @@ slot_end x = x.start + x.duration
 
 -- where the last slot of a plan ends; 0 while there is none
 abbrev pub end_of : Plan → ℕ
-end_of p = cond (p.count == 0) 0 (slot_end (slice_index_or p.slots (p.count - 1) slot0))
+end_of p = cond (p.slots.count == 0) 0 (slot_end (slice_index_or p.slots.rows (p.slots.count - 1) slot0))
 
 -- one channel more
 abbrev pub add_channel : Channel → Tables → Tables

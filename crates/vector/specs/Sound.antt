@@ -1,17 +1,15 @@
 -- What every vector that is taken says of its tables, as far as the core rests on it.
 use Rattle.std.specs.Prelude.{◌≡◌, ℕ, ◌<◌, ◌≤◌, List, get_or, Some, None, Option, slice_index_or}
 use Rattle.vector.specs.declared.tables.Plan.{Plan}
-use Rattle.vector.specs.declared.tables.Plans.{Plans}
+use Rattle.vector.specs.Tables.{Plans, Channels, Ports}
 use Rattle.vector.specs.declared.tables.Channel.{Channel}
-use Rattle.vector.specs.declared.tables.Channels.{Channels}
 use Rattle.vector.specs.declared.tables.Port.{Port}
-use Rattle.vector.specs.declared.tables.Ports.{Ports}
 use Rattle.vector.specs.declared.tables.Tables.{Tables}
 use Rattle.vector.specs.Blank.{slot0, plan0, channel0, port0}
 
 -- a frame of 1 to 1,000,000 microseconds, and at most 16 slots of partitions below 8
 abbrev pub SoundPlan : Plan → Type 0
-SoundPlan p = (1 ≤ p.frame) × (p.frame ≤ 1000000) × (p.count ≤ 16) × ((i : ℕ) → i < p.count → (get_or p.slots i slot0).partition < 8)
+SoundPlan p = (1 ≤ p.frame) × (p.frame ≤ 1000000) × (p.slots.count ≤ 16) × ((i : ℕ) → i < p.slots.count → (get_or p.slots.rows i slot0).partition < 8)
 
 -- 1 to 4 plans, each of them sound
 abbrev pub SoundPlans : Plans → Type 0

@@ -1,11 +1,11 @@
 // The tables before any record, and the rows as they begin.
 ghost use Rattle.std.specs.Prelude.{◌≡◌};
-ghost use Rattle.vector.specs.Blank.{defaults, system_defaults};
+ghost use Rattle.vector.specs.Blank.{slot0, channel0, defaults, system_defaults};
 ghost use Rattle.vector.specs.Rows.{no_name, row_of, plan_with, blank};
 
 use crate::tables::{
-    Action, Channel, ChannelKind, Channels, Class, Direction, Name, PartitionRow, Partitions, Plan,
-    Plans, Port, Ports, Response, Slot, Tables,
+    Action, Channel, ChannelKind, Class, Direction, Name, PartitionRow, Plan, Port, Response, Slot,
+    Table, Tables,
 };
 
 fn default_responses() -> [Response; 8]
@@ -64,6 +64,31 @@ impl Name {
     }
 }
 
+impl Slot {
+    pub(crate) fn none() -> Slot
+        ensures { result ≡ slot0 }
+    {
+        Slot {
+            partition: 0,
+            start: 0,
+            duration: 0,
+        }
+    }
+}
+
+impl Channel {
+    pub(crate) fn none() -> Channel
+        ensures { result ≡ channel0 }
+    {
+        Channel {
+            kind: ChannelKind::Sampling,
+            longest: 0,
+            depth: 0,
+            ports: 0,
+        }
+    }
+}
+
 impl PartitionRow {
     /// A partition with the responses that hold where the vector says nothing, and no links.
     pub(crate) fn new(class: Class, size: u16, name: Name) -> PartitionRow
@@ -83,15 +108,9 @@ impl Plan {
     pub(crate) fn new(frame: u32) -> Plan
         ensures { result ≡ plan_with frame }
     {
-        let slot = Slot {
-            partition: 0,
-            start: 0,
-            duration: 0,
-        };
         Plan {
             frame,
-            count: 0,
-            slots: [slot; 16],
+            slots: Table::new(Slot::none()),
         }
     }
 }
@@ -101,12 +120,6 @@ impl Tables {
         ensures { result ≡ blank }
     {
         let row = PartitionRow::new(Class::Standard, 0, Name::none());
-        let channel = Channel {
-            kind: ChannelKind::Sampling,
-            longest: 0,
-            depth: 0,
-            ports: 0,
-        };
         let port = Port {
             partition: 0,
             channel: 0,
@@ -114,22 +127,10 @@ impl Tables {
             name: Name::none(),
         };
         Tables {
-            partitions: Partitions {
-                count: 0,
-                rows: [row; 8],
-            },
-            plans: Plans {
-                count: 0,
-                rows: [Plan::new(0); 4],
-            },
-            channels: Channels {
-                count: 0,
-                rows: [channel; 8],
-            },
-            ports: Ports {
-                count: 0,
-                rows: [port; 32],
-            },
+            partitions: Table::new(row),
+            plans: Table::new(Plan::new(0)),
+            channels: Table::new(Channel::none()),
+            ports: Table::new(port),
             lines: [None; 16],
             system: default_system_responses(),
         }

@@ -183,7 +183,7 @@ pub(crate) fn read_body<'a>(
 ) -> Result<Record<'a>, FieldFault>
     requires suited { suits kind (length body.now) ≡ true }
     requires small { at + length body.now < 2 ^ 64 }
-    requires few { (sofar.now.partitions ≤ 8) × (sofar.now.tables.channels.count ≤ 8) }
+    requires few { sofar.now.partitions ≤ 8 }
     ensures { out field_reason said_of result ≡ said_by kind sofar.now at body.now }
 {
     match kind {

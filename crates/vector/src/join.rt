@@ -43,8 +43,7 @@ impl Sofar {
         requires { self.tables.partitions.count < 8 }
         ensures { out relation_reason (λ s. s) result ≡ joined_partition at self row }
     {
-        let partitions = &self.tables.partitions;
-        if is_named(&partitions.rows[0..partitions.count], &row.name) {
+        if is_named(self.tables.partitions.as_slice(), &row.name) {
             return Err(RelationFault::Repeated { at });
         }
         Ok(self.with_tables(Kind::Partition, self.tables.with_partition(row)))
@@ -74,8 +73,7 @@ impl Sofar {
         if self.tables.is_full() {
             return Err(RelationFault::TooMany { at });
         }
-        let ports = &self.tables.ports;
-        if is_clashing(&ports.rows[0..ports.count], &port) {
+        if is_clashing(self.tables.ports.as_slice(), &port) {
             return Err(RelationFault::Repeated { at });
         }
         Ok(self.with_tables(Kind::Port, self.tables.with_port(port)))

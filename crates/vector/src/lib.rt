@@ -30,6 +30,7 @@ pub(crate) mod relations;
 pub(crate) mod rows;
 pub(crate) mod scan;
 pub(crate) mod sofar;
+pub mod table;
 pub mod tables;
 pub(crate) mod turn;
 

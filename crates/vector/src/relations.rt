@@ -1,5 +1,5 @@
 // What a record may have to do with those before it.
-ghost use Rattle.std.specs.Prelude.{◌≡◌, ◌≤◌};
+ghost use Rattle.std.specs.Prelude.{◌≡◌};
 ghost use Rattle.vector.specs.Joins.{admitted, is_queuing, is_full, InScope, respond};
 ghost use Rattle.vector.specs.Out.{out};
 ghost use Rattle.vector.specs.Reasons.{relation_reason};
@@ -14,11 +14,10 @@ impl Plan {
     pub(crate) fn admit(&self, slot: &Slot, at: usize) -> Result<(), RelationFault>
         ensures { out relation_reason (λ u. u) result ≡ admitted at self.now slot.now }
     {
-        if self.count >= 16 {
+        if self.slots.count >= 16 {
             return Err(RelationFault::TooMany { at });
         }
-        let start = slot.start as u64;
-        if self.end() <= start && start + slot.duration as u64 <= self.frame as u64 {
+        if self.end() <= slot.start as u64 && slot.end() <= self.frame as u64 {
             Ok(())
         } else {
             Err(RelationFault::Misplaced { at })
@@ -37,7 +36,6 @@ impl ChannelKind {
 impl Tables {
     /// Whether there is no room for one more port of the channel that was added last.
     pub(crate) fn is_full(&self) -> bool
-        requires { self.now.channels.count ≤ 8 }
         ensures { result ≡ is_full self.now }
     {
         let channel = self.open_channel();

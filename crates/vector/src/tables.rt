@@ -1,4 +1,5 @@
-// The tables that a vector gives: plain rows, each table with the count of the rows that are there.
+// The tables that a vector gives, and their rows.
+pub use crate::table::Table;
 
 /// The class of a partition: a system partition may manage the others.
 #[derive(Clone, Copy)]
@@ -43,11 +44,7 @@ pub struct PartitionRow {
     pub links: [Option<u8>; 8],
 }
 
-#[derive(Clone, Copy)]
-pub struct Partitions {
-    pub count: usize,
-    pub rows: [PartitionRow; 8],
-}
+pub type Partitions = Table<PartitionRow, 8>;
 
 /// A slot of a plan: which partition runs, from which offset in the frame, for how long (in microseconds).
 #[derive(Clone, Copy)]
@@ -57,19 +54,16 @@ pub struct Slot {
     pub duration: u32,
 }
 
+pub type Slots = Table<Slot, 16>;
+
 /// A cyclic plan: the length of its frame in microseconds, and its slots.
 #[derive(Clone, Copy)]
 pub struct Plan {
     pub frame: u32,
-    pub count: usize,
-    pub slots: [Slot; 16],
+    pub slots: Slots,
 }
 
-#[derive(Clone, Copy)]
-pub struct Plans {
-    pub count: usize,
-    pub rows: [Plan; 4],
-}
+pub type Plans = Table<Plan, 4>;
 
 /// A sampling channel holds the last message, a queuing channel all that were not read yet.
 #[derive(Clone, Copy)]
@@ -87,11 +81,7 @@ pub struct Channel {
     pub ports: usize,
 }
 
-#[derive(Clone, Copy)]
-pub struct Channels {
-    pub count: usize,
-    pub rows: [Channel; 8],
-}
+pub type Channels = Table<Channel, 8>;
 
 #[derive(Clone, Copy)]
 pub enum Direction {
@@ -108,11 +98,7 @@ pub struct Port {
     pub name: Name,
 }
 
-#[derive(Clone, Copy)]
-pub struct Ports {
-    pub count: usize,
-    pub rows: [Port; 32],
-}
+pub type Ports = Table<Port, 32>;
 
 /// All that a vector says; `lines` are the owners of the interrupt lines 0 to 15, `system` the responses to the
 /// system's fault events 8 to 11.

@@ -1,5 +1,5 @@
 // Which kind of record may come next, and what is owed at the end.
-ghost use Rattle.std.specs.Prelude.{◌≡◌, ◌≤◌};
+ghost use Rattle.std.specs.Prelude.{◌≡◌};
 ghost use Rattle.vector.specs.Bodies.{next_direction};
 ghost use Rattle.vector.specs.Out.{out};
 ghost use Rattle.vector.specs.Reasons.{frame_reason};
@@ -48,7 +48,6 @@ fn may_end(last: Option<Kind>) -> bool
 impl Tables {
     /// The direction of the next port: a channel's first is its source, the others are destinations.
     pub(crate) fn next_direction(&self) -> Direction
-        requires { self.now.channels.count ≤ 8 }
         ensures { result ≡ next_direction self.now }
     {
         if self.open_channel().ports == 0 {
@@ -74,7 +73,6 @@ impl Sofar {
 
     /// The last channel, if there is one, has its two ports.
     fn has_ports(&self) -> bool
-        requires { self.now.tables.channels.count ≤ 8 }
         ensures { result ≡ has_ports self.now }
     {
         self.tables.channels.count == 0 || self.tables.open_channel().ports >= 2
@@ -82,7 +80,6 @@ impl Sofar {
 
     /// Whether the tables are ready for a record of this kind.
     fn is_ready_for(&self, kind: Kind) -> bool
-        requires { self.now.tables.channels.count ≤ 8 }
         ensures { result ≡ ready kind self.now }
     {
         match kind {
@@ -97,7 +94,6 @@ impl Sofar {
     }
 
     pub(crate) fn turn(&self, kind: Kind, at: usize) -> Result<(), FrameFault>
-        requires { self.now.tables.channels.count ≤ 8 }
         ensures { out frame_reason (λ u. u) result ≡ turned at kind self.now }
     {
         if kind.may_follow(self.last) && self.is_ready_for(kind) {
@@ -108,7 +104,6 @@ impl Sofar {
     }
 
     fn is_settled(&self) -> bool
-        requires { self.now.tables.channels.count ≤ 8 }
         ensures { result ≡ settled self.now }
     {
         may_end(self.last) && self.has_partitions() && self.has_plans() && self.has_ports()
@@ -116,7 +111,6 @@ impl Sofar {
 
     /// The end of the bytes.
     pub(crate) fn finish(&self, at: usize) -> Result<(), FrameFault>
-        requires { self.now.tables.channels.count ≤ 8 }
         ensures { out frame_reason (λ _. self.now) result ≡ ending at self.now }
     {
         if self.is_settled() {

@@ -1,0 +1,58 @@
+// A table of rows of one type, in memory of a fixed size.
+ghost use Rattle.std.specs.Prelude.{◌≡◌, ◌+◌, ◌-◌, ◌<◌, ◌≤◌, take, replicate, slice_index_or, slice_set};
+
+/// A table of at most `N` rows; the first `count` of `rows` are there.
+#[derive(Clone, Copy)]
+pub struct Table<T, const N: usize> {
+    pub count: usize,
+    pub rows: [T; N],
+}
+
+impl<T: Copy, const N: usize> Table<T, N> {
+    /// No rows yet.
+    pub(crate) fn new(blank: T) -> Table<T, N>
+        ensures { result ≡ record { count = 0; rows = replicate N blank } }
+    {
+        Table {
+            count: 0,
+            rows: [blank; N],
+        }
+    }
+
+    /// The rows that are there.
+    pub fn as_slice(&self) -> &[T]
+        ensures { result.now ≡ take self.now.count self.now.rows }
+    {
+        &self.rows[..self.count.min(N)]
+    }
+
+    /// One row more.
+    pub(crate) fn with(mut self, row: T) -> Table<T, N>
+        requires { self.count < N }
+        ensures { result ≡ record { count = self.count + 1; rows = slice_set self.rows self.count row } }
+    {
+        self.rows[self.count] = row;
+        self.count += 1;
+        self
+    }
+
+    /// The row that was added last; while there is none, the row at 0 as it began, and the blank one where there is no
+    /// such row.
+    pub(crate) fn last_or(&self, blank: T) -> T
+        ensures { result ≡ slice_index_or self.now.rows (self.now.count - 1) blank }
+    {
+        self.rows
+            .get(self.count.saturating_sub(1))
+            .copied()
+            .unwrap_or(blank)
+    }
+
+    /// The row that was added last, replaced.
+    pub(crate) fn with_last(mut self, row: T) -> Table<T, N>
+        requires { (1 ≤ self.count) × (self.count ≤ N) }
+        ensures { result ≡ record { count = self.count; rows = slice_set self.rows (self.count - 1) row } }
+    {
+        self.rows[self.count - 1] = row;
+        self
+    }
+}
