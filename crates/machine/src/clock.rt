@@ -6,7 +6,7 @@ pub type Time = u32;
 /// A tick may lie this far ahead at most.
 pub const FARTHEST: Time = 1_000_000;
 
-#[derive(Clone, Copy)]
+#[derive(Clone, Copy, Debug, PartialEq, Eq)]
 pub struct Clock {
     pub time: Time,
     pub plan: u8,

@@ -11,8 +11,6 @@ pub mod message;
 pub mod partition;
 
 /// The worked examples of the rules stand.
-pub fn examples_stand() -> u8
+pub fn examples_stand()
     ensures { ExamplesStand }
-{
-    0
-}
+{}
