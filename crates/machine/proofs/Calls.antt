@@ -1,12 +1,13 @@
 -- Each call by its number, by a member and by an outsider.
-use Rattle.std.proofs.Common.{ℕ, Bool, ltb, get_or, refl}
+use Rattle.std.proofs.Common.{ℕ, Bool, Result, Ok, Err}
 use Rattle.vector.specs.declared.tables.Tables.{Tables}
 use Rattle.vector.specs.declared.tables.ChannelKind.TheVariants.{Sampling, Queuing}
+use Rattle.machine.specs.declared.answer.Refusal.{Refusal}
 use Rattle.machine.specs.declared.event.Hypercall.{Hypercall}
 use Rattle.machine.specs.declared.event.Hypercall.TheVariants.{GetTime, GetPartitionStatus, HaltPartition, SuspendPartition, ResumePartition, ResetPartition, IdleSelf, SwitchPlan, GetPlanStatus, CreateSamplingPort, WriteSamplingMessage, ReadSamplingMessage, CreateQueuingPort, SendQueuingMessage, ReceiveQueuingMessage, GetQueuingStatus, RaiseIpvi, GetIrqs, SetIrqMask, ClearIrqMask, ClearIrqPending, RaisePartitionError, ReadLog, ResetSystem, HaltSystem}
 use Rattle.machine.specs.State.{keeps}
-use Rattle.machine.specs.Calls.{perform, calls, called}
-use Rattle.machine.proofs.Alike.{alike_refl, matched_guard, matched_same, quiet_guard, quiet_core}
+use Rattle.machine.specs.Calls.{perform, call_of, attempted, called}
+use Rattle.machine.proofs.Alike.{alike_refl, matched_same, quiet_core}
 use Rattle.machine.proofs.Sealed.{Sealed}
 use Rattle.machine.proofs.Respects.{Respects}
 use Rattle.machine.proofs.Targets.{get_time_respects, get_partition_status_respects, halt_partition_respects, suspend_partition_respects, resume_partition_respects, reset_partition_respects, idle_self_respects, switch_plan_respects, get_plan_status_respects}
@@ -42,15 +43,13 @@ module _ (k : Tables) (M C : ℕ → Bool) (w : Sealed k M C) where
   perform_respects ResetSystem = reset_system_respects k M C w
   perform_respects HaltSystem = halt_system_respects k M C w
 
-  pub called_respects : (n : ℕ) → Respects k M C (called n)
-  called_respects n =
+  attempted_respects : (c : Result Hypercall Refusal) → Respects k M C (attempted c)
+  attempted_respects (Ok h) = perform_respects h
+  attempted_respects (Err r) =
       record {
-        inside = λ q m x y a g r.
-            matched_guard k M C q (ltb n 25) _ refl
-            (λ _. (perform_respects (get_or calls n GetTime)).inside q m x y a g r)
-            (λ _. matched_same k M C q keeps _ r);
-        outside = λ q o h x a g.
-            quiet_guard M C x (ltb n 25)
-            (λ _. (perform_respects (get_or calls n GetTime)).outside q o h x a g)
-            (λ _. quiet_core M C x _ (alike_refl M C x));
+        inside = λ q m x y a g s. matched_same k M C q keeps _ s;
+        outside = λ q o h x a g. quiet_core M C x _ (alike_refl M C x);
       }
+
+  pub called_respects : (n : ℕ) → Respects k M C (called n)
+  called_respects n = attempted_respects (call_of n)

@@ -1,17 +1,20 @@
 -- What is true of the outcome of every event: one walk over the calls, the faults and the rest.
-use Rattle.std.proofs.Common.{◌≡◌, ℕ, ◌-◌, Bool, true, false, ◌&&◌, ◌||◌, eqb, List, pos, negsuc, Some, None, Option, sym, refl, subst, inl, inr, arith}
+use Rattle.std.proofs.Common.{◌≡◌, ℕ, ◌-◌, Bool, true, false, ◌&&◌, ◌||◌, eqb, ltb, List, get_or, pos, negsuc, Some, None, Option, Ok, Err, sym, refl, subst, inl, inr, arith}
 use Rattle.std.proofs.lemmas.Bool.{both_ways, and_parts, or_cases, or_left, eqb-true, cond-true, cond_both}
 use Rattle.vector.specs.declared.tables.Tables.{Tables}
 use Rattle.vector.specs.declared.tables.Response.{Response}
+use Rattle.vector.specs.declared.record.Scope.{Scope}
+use Rattle.vector.specs.declared.record.Scope.TheVariants.{Partition, System}
 use Rattle.vector.specs.declared.tables.Action.{Action}
 use Rattle.vector.specs.declared.tables.Action.TheVariants.{Ignore, Signal, Suspend, Halt, WarmReset, ColdReset}
 use Rattle.vector.specs.declared.tables.ChannelKind.{ChannelKind}
 use Rattle.machine.specs.declared.log.Entry.{Entry}
 use Rattle.machine.specs.declared.answer.Refusal.{Refusal}
-use Rattle.machine.specs.declared.answer.Refusal.TheVariants.{SystemHalted}
+use Rattle.machine.specs.declared.answer.Refusal.TheVariants.{UnknownHypercall, SystemHalted}
 use Rattle.machine.specs.declared.event.Event.{Event}
 use Rattle.machine.specs.declared.event.Event.TheVariants.{Tick, Call, Load, Store, Fault, Line, SystemFault}
 use Rattle.machine.specs.declared.event.Hypercall.{Hypercall}
+use Rattle.machine.specs.declared.event.Hypercall.TheVariants.{GetTime}
 use Rattle.machine.specs.Answers.{reply}
 use Rattle.machine.specs.Letters.{Letter}
 use Rattle.machine.specs.Questions.{exists, is_system, manages, response}
@@ -22,7 +25,7 @@ use Rattle.machine.specs.Management.{arg}
 use Rattle.machine.specs.Ports.{create_at, sampled, taken}
 use Rattle.machine.specs.Interrupts.{line_of}
 use Rattle.machine.specs.Monitor.{read}
-use Rattle.machine.specs.Calls.{perform, calls}
+use Rattle.machine.specs.Calls.{perform, calls, attempted, called}
 use Rattle.machine.specs.Step.{running, gate, author, outcome}
 use Rattle.machine.specs.Laws.{replans}
 use Rattle.machine.specs.Isolation.{existing, whose}
@@ -67,8 +70,8 @@ module _ (k : Tables) (p : ℕ) (o : Option ℕ) (replan reach : Bool) (x : Core
 
 ruleset tame = (tame_guard, tame_refused, tame_told, sane)
 
-logged-plan : (q e : ℕ) (r : Response) (x : Core) → (logged q e r x).clock.plan ≡ x.clock.plan
-logged-plan q e r x = cond_both r.log _ _ (λ (y : Core). y.clock.plan ≡ x.clock.plan) (λ _. refl) (λ _. refl)
+logged-plan : (c : Scope) (e : ℕ) (r : Response) (x : Core) → (logged c e r x).clock.plan ≡ x.clock.plan
+logged-plan c e r x = cond_both r.log _ _ (λ (y : Core). y.clock.plan ≡ x.clock.plan) (λ _. refl) (λ _. refl)
 
 module _ (k : Tables) (b c : Bool) (x : Core) where
   carried_tame : (a : Action) (q : ℕ) (y : Core) → y.clock.plan ≡ x.clock.plan → (Sane k x → Sane k y) →
@@ -82,7 +85,7 @@ module _ (k : Tables) (b c : Bool) (x : Core) where
 
   faulted_tame : (q e : ℕ) → Tame k q (Some q) b c x (faulted k x q e)
   faulted_tame q e =
-      carried_tame (response k q e).action q _ (logged-plan q e (response k q e) x) (logged_sane k x q e (response k q e))
+      carried_tame (response k q e).action q _ (logged-plan (Partition q) e (response k q e) x) (logged_sane k x (Partition q) e (response k q e))
 
   create_at_tame : (o : Option ℕ) (t : ChannelKind) (q : ℕ) (g : List ℕ) → Tame k q (Some q) b c x (create_at o t k x q g)
   create_at_tame None t q g = search tame
@@ -175,6 +178,14 @@ all_tame =
     also (λ k x a q g. search tame depth 8)
     also none
 
+called_tame : (k : Tables) (x : Core) (n : ℕ) (a : List ℕ) (q : ℕ) (g : List ℕ) →
+    Tame k q (Some q) (is_system k q && eqb n 23) (is_system k q && is_cold n g) x (called n k x a q g)
+called_tame k x n a q g =
+    cond_both (ltb n 25) (Ok (get_or calls n GetTime)) (Err UnknownHypercall)
+    (λ c. Tame k q (Some q) (is_system k q && eqb n 23) (is_system k q && is_cold n g) x (attempted c k x a q g))
+    (λ _. numbered Called (λ n k x a q g. search tame) all_tame n k x a q g)
+    (λ _. tame_refused k q (Some q) _ _ x UnknownHypercall)
+
 -- who is on the processor exists
 gate_tame : (k : Tables) (b c : Bool) (x : Core) (q : ℕ) {u : Out} → Tame k q (Some q) b c x u → Tame k q (existing k q) b c x (gate k x q u)
 gate_tame k b c x q {u} h =
@@ -191,13 +202,13 @@ outcome_tame k s (Tick t) =
     search tame
 outcome_tame k s (Call q n g) =
     gate_tame k _ _ s.core q
-    (let h = numbered Called (λ n k x a q g. search tame) all_tame n k s.core (area s.areas q) q g in search tame)
+    (called_tame k s.core n (area s.areas q) q g)
 outcome_tame k s (Load q o) = gate_tame k _ _ s.core q (let h = faulted_tame k false false s.core q 6 in search tame)
 outcome_tame k s (Store q o v) = gate_tame k _ _ s.core q (let h = faulted_tame k false false s.core q 6 in search tame)
 outcome_tame k s (Fault q e) = gate_tame k _ _ s.core q (search (tame, parts))
 outcome_tame k s (Line l) = search (tame, parts)
 outcome_tame k s (SystemFault e) =
-    let h = system_carried_tame k 0 None (system_response k e).action s.core _ (logged_sane k s.core 255 e (system_response k e)) in
+    let h = system_carried_tame k 0 None (system_response k e).action s.core _ (logged_sane k s.core System e (system_response k e)) in
     search tame
 
 -- .. in a system that runs or is halted

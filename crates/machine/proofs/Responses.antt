@@ -4,6 +4,8 @@ use Rattle.std.proofs.lemmas.Bool.{cond_both}
 use Rattle.queue.specs.Ring.{first}
 use Rattle.vector.specs.declared.tables.Tables.{Tables}
 use Rattle.vector.specs.declared.tables.Response.{Response}
+use Rattle.vector.specs.declared.record.Scope.{Scope}
+use Rattle.vector.specs.declared.record.Scope.TheVariants.{Partition, System}
 use Rattle.vector.specs.declared.tables.Action.{Action}
 use Rattle.vector.specs.declared.tables.Action.TheVariants.{Ignore, Signal, Suspend, Halt, WarmReset, ColdReset}
 use Rattle.machine.specs.declared.clock.Clock.{Clock}
@@ -23,13 +25,13 @@ use Rattle.machine.proofs.Targets.{no_system}
 
 module _ (M C : ℕ → Bool) where
   -- the log is nobody's to see
-  logged-out : (q e : ℕ) (r : Response) (x : Core) → Alike M C x (logged q e r x)
-  logged-out q e r x = cond_both r.log _ _ (Alike M C x) (λ _. log-out M C (alike_refl M C x) _) (λ _. alike_refl M C x)
+  logged-out : (c : Scope) (e : ℕ) (r : Response) (x : Core) → Alike M C x (logged c e r x)
+  logged-out c e r x = cond_both r.log _ _ (Alike M C x) (λ _. log-out M C (alike_refl M C x) _) (λ _. alike_refl M C x)
 
-  logged_alike : (q e : ℕ) (r : Response) (x y : Core) → Alike M C x y → Alike M C (logged q e r x) (logged q e r y)
-  logged_alike q e r x y s = go r.log
+  logged_alike : (c : Scope) (e : ℕ) (r : Response) (x y : Core) → Alike M C x y → Alike M C (logged c e r x) (logged c e r y)
+  logged_alike c e r x y s = go r.log
     where
-      go : (b : Bool) → Alike M C (cond b (noted (entry q e r.action x.clock.time) x) x) (cond b (noted (entry q e r.action y.clock.time) y) y)
+      go : (b : Bool) → Alike M C (cond b (noted (entry c e r.action x.clock.time) x) x) (cond b (noted (entry c e r.action y.clock.time) y) y)
       go true = alike_log M C s _ _
       go false = s
 
@@ -52,7 +54,7 @@ module _ (M C : ℕ → Bool) where
 
   pub faulted_quiet : (k : Tables) (q e : ℕ) (x : Core) → M q ≡ false → Quiet M C x (faulted k x q e)
   faulted_quiet k q e x o =
-      carried_quiet (response k q e).action q x (logged q e (response k q e) x) o (logged-out q e (response k q e) x)
+      carried_quiet (response k q e).action q x (logged (Partition q) e (response k q e) x) o (logged-out (Partition q) e (response k q e) x)
 
   pub strayed_quiet : (k : Tables) (q : ℕ) (x : Core) → M q ≡ false → Quiet M C x (strayed k x q)
   strayed_quiet k q x o = let h = faulted_quiet k q 6 x o in record { core = h.core; effect = h.effect }
@@ -68,7 +70,7 @@ module _ (k : Tables) (M C : ℕ → Bool) where
 
   pub faulted_matched : (q e : ℕ) (x y : Core) → Alike M C x y → Matched k M C q (faulted k x q e) (faulted k y q e)
   faulted_matched q e x y r =
-      carried_matched (response k q e).action q q _ _ (logged_alike M C q e (response k q e) x y r)
+      carried_matched (response k q e).action q q _ _ (logged_alike M C (Partition q) e (response k q e) x y r)
 
   pub strayed_matched : (q : ℕ) (x y : Core) → Alike M C x y → Matched k M C q (strayed k x q) (strayed k y q)
   strayed_matched q x y r = let h = faulted_matched q 6 x y r in record { core = h.core; effect = h.effect; reply = λ _. refl }
@@ -84,7 +86,7 @@ module _ (k : Tables) (M C : ℕ → Bool) where
   pub system_fault_matched : (q e : ℕ) (x y : Core) → Alike M C x y → Matched k M C q (system_fault k x e) (system_fault k y e)
   system_fault_matched q e x y r =
       matched_guard k M C q (leb 8 e && ltb e 12) _ refl
-      (λ _. system_carried_matched (system_response k e).action q _ _ (logged_alike M C 255 e (system_response k e) x y r))
+      (λ _. system_carried_matched (system_response k e).action q _ _ (logged_alike M C System e (system_response k e) x y r))
       (λ _. matched_same k M C q keeps _ r)
 
   read_matched : (q : ℕ) (o p : Option Entry) (x y : Core) → is_system k q ≡ true → Alike M C x y → Matched k M C q (read x o) (read y p)

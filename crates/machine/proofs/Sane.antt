@@ -3,6 +3,7 @@ use Rattle.std.proofs.Common.{◌≡◌, ℕ, suc, ◌+◌, ◌<◌, ◌≤◌, 
 use Rattle.std.proofs.lemmas.Bool.{both_ways, and_parts, leb-true, ltb-true, cond_both}
 use Rattle.queue.specs.Ring.{rest}
 use Rattle.vector.specs.declared.tables.Tables.{Tables}
+use Rattle.vector.specs.declared.record.Scope.{Scope}
 use Rattle.vector.specs.declared.tables.Response.{Response}
 use Rattle.vector.specs.declared.tables.ChannelKind.{ChannelKind}
 use Rattle.vector.specs.declared.tables.ChannelKind.TheVariants.{Sampling, Queuing}
@@ -116,8 +117,8 @@ module _ (k : Tables) where
         }
 
     -- faults, resets and the log's reader
-    pub logged_sane : (q e : ℕ) (f : Response) → Sane k x → Sane k (logged q e f x)
-    logged_sane q e f r =
+    pub logged_sane : (c : Scope) (e : ℕ) (f : Response) → Sane k x → Sane k (logged c e f x)
+    logged_sane c e f r =
         cond_both f.log _ _ (Sane k) (λ _. sane_log r (over-kept x.clock.time x.log _ refl r.log)) (λ _. r)
 
     pub restarted_sane : Sane k x → Sane k (restarted x)

@@ -1,19 +1,17 @@
 -- The numbers of each answer: a code and the values a and b, 0 where the answer names none.
-use Rattle.std.specs.Prelude.{ℕ, ◌+◌, ◌*◌, ℤ, pos, negsuc}
+use Rattle.std.specs.Prelude.{ℕ, ◌+◌, ◌*◌, ℤ, pos, negsuc, Result, Ok, Err}
 use Rattle.vector.specs.declared.tables.Action.{Action}
 use Rattle.vector.specs.declared.tables.Action.TheVariants.{Ignore, Signal, Suspend, Halt, WarmReset, ColdReset}
+use Rattle.vector.specs.declared.record.Scope.{Scope}
+use Rattle.vector.specs.declared.record.Scope.TheVariants.{Partition, System}
 use Rattle.machine.specs.declared.partition.Status.{Status}
 use Rattle.machine.specs.declared.partition.Status.TheVariants.{Halted, Ready, Idle, Suspended}
 use Rattle.machine.specs.declared.log.Entry.{Entry}
 use Rattle.machine.specs.declared.answer.Refusal.{Refusal}
 use Rattle.machine.specs.declared.answer.Refusal.TheVariants.{NoAction, UnknownHypercall, InvalidParam, PermError, InvalidConfig, InvalidMode, NotAvailable, OpNotAllowed, NotOnProcessor, SystemHalted}
 use Rattle.machine.specs.declared.answer.Answer.{Answer}
-use Rattle.machine.specs.declared.answer.Answer.TheVariants.{Done, Time, State, Plans, Port, Received, Waiting, Words, Logged, Byte, Outside, Responded, Refused}
-
-pub record Reply : Type 0 where
-  pub code : ℤ
-  pub a : ℕ
-  pub b : ℕ
+use Rattle.machine.specs.declared.answer.Answer.TheVariants.{Done, Time, State, Plans, Port, Received, Waiting, Words, Logged, Byte, Outside, Responded}
+pub use Rattle.machine.specs.declared.answer.Reply.{Reply}
 
 -- -1 to -10
 abbrev pub refusal_code : Refusal → ℤ
@@ -42,24 +40,34 @@ status_number Ready = 1
 status_number Idle = 2
 status_number Suspended = 3
 
--- a log entry in one word: partition, event and action, a byte each
+-- a partition's number, or 255 for the system
+abbrev pub scope_number : Scope → ℕ
+scope_number (Partition q) = q
+scope_number System = 255
+
+-- a log entry in one word: scope, event and action, a byte each
 abbrev pub packed : Entry → ℕ
-packed e = e.partition + 256 * e.event + 65536 * action_number e.action
+packed e = scope_number e.scope + 256 * e.event + 65536 * action_number e.action
 
 abbrev pub reply : ℤ → ℕ → ℕ → Reply
 reply z m n = record { code = z; a = m; b = n }
 
-abbrev pub reply_of : Answer → Reply
-reply_of Done = reply (pos 0) 0 0
-reply_of (Time t) = reply (pos 0) t 0
-reply_of (State s) = reply (pos (status_number s)) 0 0
-reply_of (Plans p n m) = reply (pos p) n m
-reply_of (Port i) = reply (pos i) 0 0
-reply_of (Received n t m) = reply (pos n) t m
-reply_of (Waiting n) = reply (pos 0) n 0
-reply_of (Words p m) = reply (pos 0) p m
-reply_of (Logged n e) = reply (pos n) e.time (packed e)
-reply_of (Byte v) = reply (pos 0) v 0
-reply_of Outside = reply (pos 1) 0 0
-reply_of (Responded r) = reply (pos (action_number r)) 0 0
-reply_of (Refused r) = reply (refusal_code r) 0 0
+-- the numbers of each answer
+abbrev pub answer_reply : Answer → Reply
+answer_reply Done = reply (pos 0) 0 0
+answer_reply (Time t) = reply (pos 0) t 0
+answer_reply (State s) = reply (pos (status_number s)) 0 0
+answer_reply (Plans p n m) = reply (pos p) n m
+answer_reply (Port i) = reply (pos i) 0 0
+answer_reply (Received n t m) = reply (pos n) t m
+answer_reply (Waiting n) = reply (pos 0) n 0
+answer_reply (Words p m) = reply (pos 0) p m
+answer_reply (Logged n e) = reply (pos n) e.time (packed e)
+answer_reply (Byte v) = reply (pos 0) v 0
+answer_reply Outside = reply (pos 1) 0 0
+answer_reply (Responded r) = reply (pos (action_number r)) 0 0
+
+-- .. and of each outcome
+abbrev pub reply_of : Result Answer Refusal → Reply
+reply_of (Ok x) = answer_reply x
+reply_of (Err r) = reply (refusal_code r) 0 0

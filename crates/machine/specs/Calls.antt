@@ -1,9 +1,10 @@
 -- The calls by their numbers.
-use Rattle.std.specs.Prelude.{ℕ, List, [], ◌∷◌, nat_lt, slice_index_or}
+use Rattle.std.specs.Prelude.{ℕ, cond, List, [], ◌∷◌, nat_lt, slice_index_or, Result, Ok, Err}
 use Rattle.machine.specs.declared.event.Hypercall.{Hypercall}
 use Rattle.machine.specs.declared.event.Hypercall.TheVariants.{GetTime, GetPartitionStatus, HaltPartition, SuspendPartition, ResumePartition, ResetPartition, IdleSelf, SwitchPlan, GetPlanStatus, CreateSamplingPort, WriteSamplingMessage, ReadSamplingMessage, CreateQueuingPort, SendQueuingMessage, ReceiveQueuingMessage, GetQueuingStatus, RaiseIpvi, GetIrqs, SetIrqMask, ClearIrqMask, ClearIrqPending, RaisePartitionError, ReadLog, ResetSystem, HaltSystem}
+use Rattle.machine.specs.declared.answer.Refusal.{Refusal}
 use Rattle.machine.specs.declared.answer.Refusal.TheVariants.{UnknownHypercall}
-use Rattle.machine.specs.State.{refused, guard}
+use Rattle.machine.specs.State.{refused}
 use Rattle.machine.specs.Management.{Call, get_time, get_partition_status, halt_partition, suspend_partition, resume_partition, reset_partition, idle_self, switch_plan, get_plan_status}
 use Rattle.machine.specs.Ports.{create_sampling_port, write_sampling_message, read_sampling_message, create_queuing_port, send_queuing_message, receive_queuing_message, get_queuing_status}
 use Rattle.machine.specs.Interrupts.{raise_ipvi, get_irqs, set_irq_mask, clear_irq_mask, clear_irq_pending}
@@ -46,6 +47,14 @@ calls =
     ∷ RaiseIpvi ∷ GetIrqs ∷ SetIrqMask ∷ ClearIrqMask ∷ ClearIrqPending
     ∷ RaisePartitionError ∷ ReadLog ∷ ResetSystem ∷ HaltSystem ∷ []
 
--- the call of a number
+-- the call of a number, if there is one
+abbrev pub call_of : ℕ → Result Hypercall Refusal
+call_of n = cond (nat_lt n 25) (Ok (slice_index_or calls n GetTime)) (Err UnknownHypercall)
+
+-- what such a call does
+abbrev pub attempted : Result Hypercall Refusal → Call
+attempted (Ok h) k x a q g = perform h k x a q g
+attempted (Err r) k x a q g = refused x r
+
 abbrev pub called : ℕ → Call
-called n k x a q g = guard (nat_lt n 25) (perform (slice_index_or calls n GetTime) k x a q g) (refused x UnknownHypercall)
+called n k x a q g = attempted (call_of n) k x a q g

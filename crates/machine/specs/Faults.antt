@@ -5,6 +5,8 @@ use Rattle.vector.specs.declared.tables.Tables.{Tables}
 use Rattle.vector.specs.declared.tables.Response.{Response}
 use Rattle.vector.specs.declared.tables.Action.{Action}
 use Rattle.vector.specs.declared.tables.Action.TheVariants.{Ignore, Signal, Suspend, Halt, WarmReset, ColdReset}
+use Rattle.vector.specs.declared.record.Scope.{Scope}
+use Rattle.vector.specs.declared.record.Scope.TheVariants.{Partition, System}
 use Rattle.vector.specs.Blank.{response0}
 use Rattle.machine.specs.declared.log.Entry.{Entry}
 use Rattle.machine.specs.Partitions.{halted, suspended, fresh, signalled}
@@ -17,16 +19,16 @@ use Rattle.machine.specs.State.{Core, Effect, keeps, clears, clears_all, Out, re
 abbrev pub fault_bit : ℕ
 fault_bit = 512
 
-abbrev pub entry : ℕ → ℕ → Action → ℕ → Entry
-entry q e a t = record { action = a; partition = q; event = e; time = t }
+abbrev pub entry : Scope → ℕ → Action → ℕ → Entry
+entry c e a t = record { action = a; scope = c; event = e; time = t }
 
 -- one entry more in the log of 32, where the oldest gives way
 abbrev pub noted : Entry → Core → Core
 noted e x = with_log x (over 32 x.log e)
 
 -- the entry of a fault event, if the response says so
-abbrev pub logged : ℕ → ℕ → Response → Core → Core
-logged q e r x = cond r.log (noted (entry q e r.action x.clock.time) x) x
+abbrev pub logged : Scope → ℕ → Response → Core → Core
+logged c e r x = cond r.log (noted (entry c e r.action x.clock.time) x) x
 
 -- an outcome whose code is the action
 abbrev pub acted : Action → Core → Effect → Out
@@ -43,7 +45,7 @@ carried ColdReset q x = acted ColdReset (with_parts x (modify x.parts q (λ _. f
 
 -- a fault event of a partition: the log entry comes before the action
 abbrev pub faulted : Tables → Core → ℕ → ℕ → Out
-faulted k x q e = carried (response k q e).action q (logged q e (response k q e) x)
+faulted k x q e = carried (response k q e).action q (logged (Partition q) e (response k q e) x)
 
 -- a load or store outside the area: fault 6, and the code is 1
 abbrev pub strayed : Tables → Core → ℕ → Out
@@ -66,4 +68,4 @@ abbrev pub system_response : Tables → ℕ → Response
 system_response k e = slice_index_or k.system (e - 8) response0
 
 abbrev pub system_faulted : Tables → Core → ℕ → Out
-system_faulted k x e = system_carried k (system_response k e).action (logged 255 e (system_response k e) x)
+system_faulted k x e = system_carried k (system_response k e).action (logged System e (system_response k e) x)

@@ -1,6 +1,6 @@
 // What an event is answered, and the numbers of each answer.
-ghost use Rattle.std.specs.Prelude.{◌≡◌, ℤ};
-ghost use Rattle.machine.specs.Answers.{refusal_code, action_number, status_number, packed, reply_of};
+ghost use Rattle.std.specs.Prelude.{◌≡◌, ℤ, pos};
+ghost use Rattle.machine.specs.Answers.{refusal_code, action_number, status_number, reply, reply_of, answer_reply};
 
 use crate::clock::Time;
 use crate::log::Entry;
@@ -8,7 +8,7 @@ use crate::partition::Status;
 use vector::tables::Action;
 
 /// Why an event is refused.
-#[derive(Clone, Copy)]
+#[derive(Clone, Copy, Debug, PartialEq, Eq)]
 pub enum Refusal {
     NoAction,
     UnknownHypercall,
@@ -22,12 +22,12 @@ pub enum Refusal {
     SystemHalted,
 }
 
-impl Refusal {
-    /// The number of a refusal, XtratuM's where it has one.
-    pub fn code(&self) -> i32
-        ensures { result ≡ refusal_code self.now }
-    {
-        match self {
+/// The number of a refusal, XtratuM's where it has one.
+impl From<Refusal> for i32 {
+    ghost from_gives = { λ refusal code. code ≡ refusal_code refusal };
+
+    fn from(refusal: Refusal) -> i32 {
+        match refusal {
             Refusal::NoAction => -1,
             Refusal::UnknownHypercall => -2,
             Refusal::InvalidParam => -3,
@@ -42,7 +42,7 @@ impl Refusal {
     }
 }
 
-/// An answer: done, a value that was asked for, or a refusal.
+/// An answer: done, or a value that was asked for.
 #[derive(Clone, Copy)]
 pub enum Answer {
     Done,
@@ -57,72 +57,73 @@ pub enum Answer {
     Byte(u8),
     Outside,
     Responded(Action),
-    Refused(Refusal),
 }
 
-impl Answer {
-    pub fn code(&self) -> i32
-        ensures { result ≡ (reply_of self.now).code }
+/// What an event comes to: an answer or a refusal.
+pub type Outcome = Result<Answer, Refusal>;
+
+/// The numbers of an outcome: its code, and the values a and b, 0 where it does not name them.
+#[derive(Clone, Copy, Debug, PartialEq, Eq)]
+pub struct Reply {
+    pub code: i32,
+    pub a: u32,
+    pub b: u32,
+}
+
+impl Reply {
+    /// The code of an answer is a byte's number.
+    fn new(code: u8, a: u32, b: u32) -> Reply
+        ensures { result ≡ reply (pos code) a b }
     {
-        match self {
-            Answer::Done
-            | Answer::Time(_)
-            | Answer::Waiting(_)
-            | Answer::Words {
-                pending: _,
-                mask: _,
-            }
-            | Answer::Byte(_) => 0,
-            Answer::State(status) => i32::from(status_number(*status)),
+        Reply {
+            code: i32::from(code),
+            a,
+            b,
+        }
+    }
+}
+
+impl From<Answer> for Reply {
+    ghost from_gives = { λ answer r. r ≡ answer_reply answer };
+
+    fn from(answer: Answer) -> Reply {
+        match answer {
+            Answer::Done => Reply::new(0, 0, 0),
+            Answer::Time(time) => Reply::new(0, time, 0),
+            Answer::State(status) => Reply::new(u8::from(status), 0, 0),
             Answer::Plans {
                 plan,
-                next: _,
-                slotless: _,
-            } => i32::from(*plan),
-            Answer::Port(port) => i32::from(*port),
-            Answer::Received {
-                length,
-                time: _,
-                left: _,
-            } => i32::from(*length),
-            Answer::Logged { left, entry: _ } => i32::from(*left),
-            Answer::Outside => 1,
-            Answer::Responded(action) => i32::from(action_number(*action)),
-            Answer::Refused(refusal) => refusal.code(),
-        }
-    }
-
-    /// The two values a and b of an answer; those that it does not name are 0.
-    pub fn values(&self) -> (u32, u32)
-        ensures { result ≡ ((reply_of self.now).a, (reply_of self.now).b) }
-    {
-        match self {
-            Answer::Time(time) => (*time, 0),
-            Answer::Plans {
-                plan: _,
                 next,
                 slotless,
-            } => (u32::from(*next), *slotless),
-            Answer::Received {
-                length: _,
-                time,
-                left,
-            } => (*time, u32::from(*left)),
-            Answer::Waiting(count) => (u32::from(*count), 0),
-            Answer::Words { pending, mask } => (*pending, *mask),
-            Answer::Logged { left: _, entry } => (entry.time, pack(entry)),
-            Answer::Byte(byte) => (u32::from(*byte), 0),
-            Answer::Done
-            | Answer::State(_)
-            | Answer::Port(_)
-            | Answer::Outside
-            | Answer::Responded(_)
-            | Answer::Refused(_) => (0, 0),
+            } => Reply::new(plan, u32::from(next), slotless),
+            Answer::Port(port) => Reply::new(port, 0, 0),
+            Answer::Received { length, time, left } => Reply::new(length, time, u32::from(left)),
+            Answer::Waiting(count) => Reply::new(0, u32::from(count), 0),
+            Answer::Words { pending, mask } => Reply::new(0, pending, mask),
+            Answer::Logged { left, entry } => Reply::new(left, entry.time, entry.packed()),
+            Answer::Byte(byte) => Reply::new(0, u32::from(byte), 0),
+            Answer::Outside => Reply::new(1, 0, 0),
+            Answer::Responded(action) => Reply::new(action_number(action), 0, 0),
         }
     }
 }
 
-fn action_number(action: Action) -> u8
+impl From<Outcome> for Reply {
+    ghost from_gives = { λ outcome r. r ≡ reply_of outcome };
+
+    fn from(outcome: Outcome) -> Reply {
+        match outcome {
+            Ok(answer) => Reply::from(answer),
+            Err(refusal) => Reply {
+                code: i32::from(refusal),
+                a: 0,
+                b: 0,
+            },
+        }
+    }
+}
+
+pub(crate) fn action_number(action: Action) -> u8
     ensures { result ≡ action_number action }
 {
     match action {
@@ -133,24 +134,4 @@ fn action_number(action: Action) -> u8
         Action::WarmReset => 4,
         Action::ColdReset => 5,
     }
-}
-
-fn status_number(status: Status) -> u8
-    ensures { result ≡ status_number status }
-{
-    match status {
-        Status::Ready => 1,
-        Status::Idle => 2,
-        Status::Suspended => 3,
-        Status::Halted => 4,
-    }
-}
-
-/// A log entry in one word: partition, event and action, a byte each.
-fn pack(entry: &Entry) -> u32
-    ensures { result ≡ packed entry.now }
-{
-    u32::from(entry.partition)
-        + 256 * u32::from(entry.event)
-        + 65536 * u32::from(action_number(entry.action))
 }

@@ -1,12 +1,15 @@
 // What can be sent to a booted system.
-use crate::answer::Answer;
+ghost use Rattle.std.specs.Prelude.{◌≡◌};
+ghost use Rattle.machine.specs.Calls.{call_of};
+
+use crate::answer::{Outcome, Refusal};
 use crate::clock::Time;
 
 /// The five arguments of a call; a call leaves its spare ones unread.
 pub type Args = [u32; 5];
 
 /// An event: one of seven sorts, each with its own numbers.
-#[derive(Clone, Copy)]
+#[derive(Clone, Copy, Debug, PartialEq, Eq)]
 pub enum Event {
     Tick {
         time: Time,
@@ -38,7 +41,7 @@ pub enum Event {
 }
 
 /// The calls, by their numbers from 0.
-#[derive(Clone, Copy)]
+#[derive(Clone, Copy, Debug, PartialEq, Eq)]
 pub enum Hypercall {
     GetTime,
     GetPartitionStatus,
@@ -67,9 +70,47 @@ pub enum Hypercall {
     HaltSystem,
 }
 
-/// A line of a history: an event, and the answer to it.
+/// The call of a number.
+impl TryFrom<u8> for Hypercall {
+    type Error = Refusal;
+
+    ghost try_from_gives = { λ number r. r ≡ call_of number };
+
+    fn try_from(number: u8) -> Result<Hypercall, Refusal> {
+        match number {
+            0 => Ok(Hypercall::GetTime),
+            1 => Ok(Hypercall::GetPartitionStatus),
+            2 => Ok(Hypercall::HaltPartition),
+            3 => Ok(Hypercall::SuspendPartition),
+            4 => Ok(Hypercall::ResumePartition),
+            5 => Ok(Hypercall::ResetPartition),
+            6 => Ok(Hypercall::IdleSelf),
+            7 => Ok(Hypercall::SwitchPlan),
+            8 => Ok(Hypercall::GetPlanStatus),
+            9 => Ok(Hypercall::CreateSamplingPort),
+            10 => Ok(Hypercall::WriteSamplingMessage),
+            11 => Ok(Hypercall::ReadSamplingMessage),
+            12 => Ok(Hypercall::CreateQueuingPort),
+            13 => Ok(Hypercall::SendQueuingMessage),
+            14 => Ok(Hypercall::ReceiveQueuingMessage),
+            15 => Ok(Hypercall::GetQueuingStatus),
+            16 => Ok(Hypercall::RaiseIpvi),
+            17 => Ok(Hypercall::GetIrqs),
+            18 => Ok(Hypercall::SetIrqMask),
+            19 => Ok(Hypercall::ClearIrqMask),
+            20 => Ok(Hypercall::ClearIrqPending),
+            21 => Ok(Hypercall::RaisePartitionError),
+            22 => Ok(Hypercall::ReadLog),
+            23 => Ok(Hypercall::ResetSystem),
+            24 => Ok(Hypercall::HaltSystem),
+            _ => Err(Refusal::UnknownHypercall),
+        }
+    }
+}
+
+/// A line of a history: an event, and what it came to.
 #[derive(Clone, Copy)]
 pub struct Exchange {
     pub event: Event,
-    pub answer: Answer,
+    pub answer: Outcome,
 }

@@ -1,14 +1,41 @@
 // An entry of the health monitor's log.
+ghost use Rattle.std.specs.Prelude.{◌≡◌};
+ghost use Rattle.machine.specs.Answers.{packed, scope_number};
+
+use crate::answer::action_number;
 use crate::clock::Time;
+use vector::record::Scope;
 use vector::tables::Action;
 
 /// The partition number that stands for the system.
 pub const SYSTEM: u8 = 255;
 
+/// A fault event of a partition or of the system, and the action that was taken.
 #[derive(Clone, Copy)]
 pub struct Entry {
     pub action: Action,
-    pub partition: u8,
+    pub scope: Scope,
     pub event: u8,
     pub time: Time,
+}
+
+impl Entry {
+    /// All but the time in one word: scope, event and action, a byte each.
+    pub(crate) fn packed(&self) -> u32
+        ensures { result ≡ packed self.now }
+    {
+        u32::from(scope_number(self.scope))
+            + 256 * u32::from(self.event)
+            + 65536 * u32::from(action_number(self.action))
+    }
+}
+
+/// A partition's number, or the system's.
+fn scope_number(scope: Scope) -> u8
+    ensures { result ≡ scope_number scope }
+{
+    match scope {
+        Scope::Partition(partition) => partition,
+        Scope::System => SYSTEM,
+    }
 }

@@ -1,9 +1,10 @@
 // The record of a partition, and what can happen to it.
 ghost use Rattle.std.specs.Prelude.{◌≡◌, ◌<◌, Bool};
+ghost use Rattle.machine.specs.Answers.{status_number};
 ghost use Rattle.machine.specs.Partitions.{fresh, is_ready, is_active, is_suspended, is_open, hidden, halted, suspended, resumed, idled, opened, masked, unmasked, acknowledged, signalled, woken};
 
 /// The state of a partition.
-#[derive(Clone, Copy)]
+#[derive(Clone, Copy, Debug, PartialEq, Eq)]
 pub enum Status {
     Halted,
     Ready,
@@ -16,24 +17,31 @@ impl Status {
     pub fn is_active(self) -> bool
         ensures { result ≡ is_active self }
     {
-        match self {
-            Status::Ready | Status::Idle => true,
-            Status::Halted | Status::Suspended => false,
-        }
+        matches!(self, Status::Ready | Status::Idle)
     }
 
     pub fn is_suspended(self) -> bool
         ensures { result ≡ is_suspended self }
     {
-        match self {
-            Status::Suspended => true,
-            Status::Halted | Status::Ready | Status::Idle => false,
+        self == Status::Suspended
+    }
+}
+
+impl From<Status> for u8 {
+    ghost from_gives = { λ status number. number ≡ status_number status };
+
+    fn from(status: Status) -> u8 {
+        match status {
+            Status::Ready => 1,
+            Status::Idle => 2,
+            Status::Suspended => 3,
+            Status::Halted => 4,
         }
     }
 }
 
 /// A partition's state, its pending and mask words, and the set of its open ports by number.
-#[derive(Clone, Copy)]
+#[derive(Clone, Copy, Debug, PartialEq, Eq)]
 pub struct Partition {
     pub status: Status,
     pub pending: u32,
@@ -57,10 +65,7 @@ impl Partition {
     pub fn is_ready(&self) -> bool
         ensures { result ≡ is_ready self.now.status }
     {
-        match self.status {
-            Status::Ready => true,
-            Status::Halted | Status::Idle | Status::Suspended => false,
-        }
+        self.status == Status::Ready
     }
 
     /// HALTED and cleared.
@@ -148,7 +153,7 @@ impl Partition {
     pub fn signal(&mut self, bits: u32)
         ensures { self.new ≡ signalled bits self.old }
     {
-        if let Status::Halted = self.status {
+        if self.status == Status::Halted {
             return;
         }
         self.pending |= bits;
@@ -161,10 +166,8 @@ impl Partition {
     pub fn wake(&mut self, due: bool)
         ensures { self.new ≡ woken due self.old }
     {
-        if let Status::Idle = self.status {
-            if due {
-                self.resume();
-            }
+        if due && self.status == Status::Idle {
+            self.resume();
         }
     }
 }
