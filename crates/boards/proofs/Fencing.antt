@@ -1,17 +1,15 @@
 -- Sound fences lay the areas apart in the memory.
-use Rattle.std.proofs.Common.{◌≡◌, ℕ, ◌+◌, ◌-◌, ◌<◌, ◌≤◌, min, true, List, length, get_or, drop, replicate, Some, None, sym, refl, ap, ◌∙◌, ⊎_elim, arith, length-drop, length-take}
+use Rattle.std.proofs.Common.{◌≡◌, ℕ, ◌+◌, ◌-◌, ◌<◌, ◌≤◌, min, true, List, length, get_or, drop, replicate, sym, refl, ap, ◌∙◌, ⊎_elim, arith, length-drop, length-take}
 use lib.ListN.{length-map, get_or-map}
 use Rattle.std.proofs.lemmas.List.{get_or-take, get_or-drop, get_or_past}
-use Rattle.std.proofs.lemmas.Bool.{cases_lt, and_parts, cond_below}
+use Rattle.std.proofs.lemmas.Bool.{cases_lt, and_parts}
 use Rattle.std.proofs.lemmas.Bool.Decides.{nat_tests}
 use Rattle.board.specs.Areas.{area}
 use Rattle.boards.specs.declared.fence.Fence.{Fence}
-use Rattle.boards.specs.declared.fenced.Fenced.{Fenced}
 use Rattle.boards.specs.Below.{all_below}
-use Rattle.boards.specs.Places.{found, LiesAt}
+use Rattle.boards.specs.Places.{LayoutLaws}
 use Rattle.boards.specs.Fences.{nowhere, fence_of, part, parts, within, apart, apart_at, good_fence, sound_fences, fence_place, fence_size}
 use Rattle.boards.proofs.Below.{below_at, neither_before}
-use Rattle.boards.proofs.Laid.{Laid, lies_at}
 
 -- eight empty fences are sound in any memory
 pub empty-sound : (n : ℕ) → sound_fences (replicate 8 nowhere) n ≡ true
@@ -42,16 +40,6 @@ module _ (fences : List Fence) (n : ℕ) (e : length fences ≡ 8) (s : sound_fe
   fence_end : (i a : ℕ) → a < fence_size fences i → (fence_of fences i).base + fence_size fences i ≤ n
   fence_end i a l = ends-within n (fence_of fences i) a (good i (below i a l)).0 l
 
-  -- a byte of the fence of an area has its place there
-  pub place_found : (i a : ℕ) (f : Fence) → f ≡ fence_of fences i → a < f.size →
-      (Some (f.base + a) ≡ found (fence_place fences) (fence_size fences) i a) × (f.base + a < n)
-  place_found i a f q l =
-      let b = ap (λ (x : Fence). x.base) q in
-      let z = ap (λ (x : Fence). x.size) q in
-      let h : a < fence_size fences i = omega arith in
-      let w = fence_end i a h in
-      (ap (λ (x : Fence). Some (x.base + a)) q ∙ cond_below a (fence_size fences i) (Some (fence_place fences i a)) None h, omega arith)
-
   earlier : (i j a c : ℕ) → j < i → a < fence_size fences i → c < fence_size fences j → fence_place fences i a ≡ fence_place fences j c → ⊥
   earlier i j a c h l k =
       no_byte_shared (fence_of fences i) (fence_of fences j) a c (below_at (apart_at fences i) i j (good i (below i a l)).1 h) l k
@@ -72,7 +60,7 @@ module _ (fences : List Fence) (n : ℕ) (e : length fences ≡ 8) (s : sound_fe
       (λ (h : fence_size fences i ≤ 0). omega arith)
       (cases_lt 0 (fence_size fences i))
 
-  pub fences_laid : Laid n (fence_place fences) (fence_size fences) (λ memory. parts memory fences)
+  pub fences_laid : LayoutLaws n (λ memory. parts memory fences) (fence_size fences) (fence_place fences)
   fences_laid =
       record {
         eight = λ memory. length-map fences (part memory) ∙ e;
@@ -85,13 +73,3 @@ module _ (fences : List Fence) (n : ℕ) (e : length fences ≡ 8) (s : sound_fe
         within = λ i a l. let w = fence_end i a l in omega arith;
         apart = bytes_apart;
       }
-
--- a fence is as long as its area, and its bytes are that area's
-module _ {n : ℕ} (b : Fenced n) (i : ℕ) (f : Fence) (q : f ≡ fence_of b.fences i) where
-  pub as_long : f.size ≡ length (area (parts b.memory b.fences) i)
-  as_long = ap (λ (x : Fence). x.size) q ∙ sym ((fences_laid b.fences n b.eight b.sound).long b.memory b.whole i)
-
-  pub byte_at : (a : ℕ) → a < f.size → LiesAt (λ m. parts m b.fences) b.memory i a (f.base + a)
-  byte_at a l =
-      let s = as_long in
-      rw q (lies_at (fences_laid b.fences n b.eight b.sound) b.memory b.whole i a (omega arith))

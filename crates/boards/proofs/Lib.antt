@@ -1,4 +1,4 @@
 pub mod Below
-pub mod Laid
+pub mod Storing
 pub mod Fencing
 pub mod Paging

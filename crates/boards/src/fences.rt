@@ -30,20 +30,12 @@ fn is_apart_from_earlier(fences: &[Fence; 8], i: usize) -> bool
     requires { i < 8 }
     ensures { result ≡ all_below (apart_at fences.now i) i }
 {
-    let mut ok = true;
-    for j in 0..i {
-        ok &= fences[i].is_apart_from(fences[j]);
-    }
-    ok
+    (0..i).all(|j| fences[i].is_apart_from(fences[j]))
 }
 
 /// May these be the fences of a memory of n bytes?
 pub(crate) fn are_sound(fences: &[Fence; 8], n: usize) -> bool
     ensures { result ≡ sound_fences fences.now n }
 {
-    let mut ok = true;
-    for i in 0..8 {
-        ok &= fences[i].lies_within(n) & is_apart_from_earlier(fences, i);
-    }
-    ok
+    (0..8).all(|i| fences[i].lies_within(n) && is_apart_from_earlier(fences, i))
 }

@@ -1,91 +1,65 @@
 //! A board whose areas are made of pages of a memory of its own.
-ghost use Rattle.std.specs.Prelude.{◌≡◌, ◌<◌, ◌≤◌, true, [], length, replicate, IfSome, if◌then◌else◌};
-ghost use Rattle.board.specs.Areas.{area};
-ghost use Rattle.boards.specs.Places.{found, Places};
-ghost use Rattle.boards.specs.Pages.{paged, eight-paged, sound_pages, paged_place, paged_size};
+ghost use Rattle.std.specs.Prelude.{◌≡◌, true, [], length, replicate, if◌then◌else◌};
+ghost use Rattle.boards.specs.Pages.{no_pages, paged, sound_pages, paged_place, paged_size};
+ghost use Rattle.boards.specs.Places.{LayoutLaws};
 
-use crate::pages::are_sound;
-use board::Board;
+use crate::laid::Laid;
+use crate::layout::Layout;
+use crate::pages::Pages;
+use crate::table::is_sound;
 
-/// A memory of N bytes, the pages of its eight areas and their sizes in bytes.
+/// The pages of eight areas, sound in a memory of N bytes.
 #[derive(Drop)]
-pub struct Paged<const N: usize> {
-    memory: [u8; N],
-    table: [[u16; 16]; 8],
-    sizes: [usize; 8],
-    ghost whole: { length memory ≡ N },
-    ghost eight: { length sizes ≡ 8 },
-    ghost sound: { sound_pages table sizes N ≡ true },
+pub struct PageTable<const N: usize> {
+    areas: [Pages; 8],
+    ghost eight: { length areas ≡ 8 },
+    ghost sound: { sound_pages areas N ≡ true },
+    ghost laws: { LayoutLaws N (λ memory. paged memory areas) (paged_size areas) (paged_place areas) },
 }
 
-impl<const N: usize> Paged<N> {
-    /// An area's bytes are those of its pages in turn, as far as its size reaches; further pages are not looked at.
-    /// A used page that is met twice or passes the memory's end, or a size above 1,024, leaves all eight areas empty.
-    pub fn new(memory: [u8; N], table: [[u16; 16]; 8], sizes: [usize; 8]) -> Paged<N>
-        ensures { paged result.memory result.table result.sizes ≡ (if sound_pages table sizes N then paged memory.entry table sizes else replicate 8 []) }
+impl<const N: usize> PageTable<N> {
+    // Pages that are not sound become none: all areas are then empty.
+    fn new(areas: [Pages; 8]) -> PageTable<N>
+        ensures { result.areas ≡ (if sound_pages areas N then areas else replicate 8 no_pages) }
     {
-        if !are_sound(&table, &sizes, N) {
-            return Paged::bare(memory, table);
+        if !is_sound(&areas, N) {
+            let none = Pages {
+                numbers: [0; 16],
+                size: 0,
+            };
+            return PageTable { areas: [none; 8] };
         }
-        Paged {
-            memory,
-            table,
-            sizes,
-        }
-    }
-
-    // A board whose eight areas are empty.
-    fn bare(memory: [u8; N], table: [[u16; 16]; 8]) -> Paged<N>
-        ensures { paged result.memory result.table result.sizes ≡ replicate 8 [] }
-    {
-        Paged {
-            memory,
-            table,
-            sizes: [0; 8],
-        }
-    }
-
-    // The size of an area; one that is not there is empty.
-    fn size_of(&self, i: usize) -> usize
-        ensures is { result ≡ paged_size self.now.sizes i }
-        ensures long { result ≡ length (area (paged self.now.memory self.now.table self.now.sizes) i) }
-        ensures fits { result ≤ 1024 }
-        ensures there { 0 < result → i < 8 }
-    {
-        if i < 8 { self.sizes[i] } else { 0 }
-    }
-
-    // Where a byte of an area lies in the memory, or none outside the area.
-    fn place(&self, i: usize, at: usize) -> Option<usize>
-        ensures is { result ≡ found (paged_place self.now.table) (paged_size self.now.sizes) i at }
-        ensures inside { IfSome result (λ p. p < N) }
-        ensures lies { Places (λ m. paged m self.now.table self.now.sizes) self.now.memory i at result }
-    {
-        if at < self.size_of(i) {
-            Some(64 * self.table[i][at / 64] as usize + at % 64)
-        } else {
-            None
-        }
+        PageTable { areas }
     }
 }
 
-impl<const N: usize> Board for Paged<N> {
-    ghost areas = { λ b. paged b.memory b.table b.sizes };
+impl<const N: usize> Layout<N> for PageTable<N> {
+    ghost view = { λ layout memory. paged memory layout.areas };
 
-    ghost eight = { λ b. eight-paged b.memory b.table b.sizes };
+    ghost sizes = { λ layout. paged_size layout.areas };
+
+    ghost places = { λ layout. paged_place layout.areas };
+
+    ghost laws = { λ layout. layout.laws };
 
     fn size(&self, i: usize) -> usize {
-        self.size_of(i)
+        self.areas.get(i).map_or(0, |pages| pages.size)
     }
 
-    fn load(&self, i: usize, at: usize) -> Option<u8> {
-        let p = self.place(i, at)?;
-        Some(self.memory[p])
+    fn place(&self, i: usize, at: usize) -> usize {
+        64 * usize::from(self.areas[i].numbers[at / 64]) + at % 64
     }
+}
 
-    fn store(&mut self, i: usize, at: usize, byte: u8) -> Option<()> {
-        let p = self.place(i, at)?;
-        self.memory[p] = byte;
-        Some(())
+/// A board whose areas are made of pages of its memory.
+pub type Paged<const N: usize> = Laid<PageTable<N>, N>;
+
+impl<const N: usize> Laid<PageTable<N>, N> {
+    /// An area's bytes are those of its pages in turn, as far as its size reaches; further pages are not looked at.
+    /// A used page that is met twice or passes the memory's end, or a size above 1,024, leaves all eight areas empty.
+    pub fn new(memory: [u8; N], areas: [Pages; 8]) -> Paged<N>
+        ensures { paged result.memory result.layout.areas ≡ (if sound_pages areas N then paged memory.entry areas else replicate 8 []) }
+    {
+        Laid::with_layout(memory, PageTable::new(areas))
     }
 }

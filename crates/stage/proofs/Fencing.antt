@@ -12,7 +12,8 @@ use Rattle.boards.specs.declared.fence.Fence.{Fence}
 use Rattle.boards.specs.Below.{all_below}
 use Rattle.boards.specs.Fences.{nowhere, fence_of, part, parts, within, apart, apart_at, good_fence, sound_fences}
 use Rattle.stage.specs.Layouts.{size_at, sizes_of, zeros_at, zeroed, fence_at, fences_of}
-use Rattle.stage.proofs.Zeros.{all-below, size-most}
+use Rattle.boards.proofs.Below.{all-below}
+use Rattle.stage.proofs.Zeros.{size-most}
 
 module _ (t : Tables) (s : AreasSized t) (n : ℕ) (room : 8192 ≤ n) where
   abbrev fence-at : ℕ → Fence

@@ -1,3 +1,4 @@
+pub mod Making
 pub mod Zeros
 pub mod Fencing
 pub mod Paging

@@ -1,5 +1,5 @@
 -- Areas of zeros have the vector's sizes, and fit.
-use Rattle.std.proofs.Common.{◌≡◌, ℕ, zero, suc, ◌<◌, ◌≤◌, Bool, true, ltb, [], length, get_or, replicate, refl, ap, ◌∙◌, arith}
+use Rattle.std.proofs.Common.{◌≡◌, ℕ, zero, suc, ◌<◌, ◌≤◌, true, ltb, [], length, get_or, replicate, refl, ap, ◌∙◌, arith}
 use lib.ListN.{length-replicate}
 use Rattle.std.proofs.lemmas.List.FromFn.{get_or-map-range_with_len}
 use Rattle.std.proofs.lemmas.Bool.{and_from, cond_both, cond-true, eq-eqb, lt-ltb, ltb-true}
@@ -7,15 +7,8 @@ use Rattle.vector.specs.declared.tables.Tables.{Tables}
 use Rattle.vector.specs.Laws.{AreasSized}
 use Rattle.vector.specs.Rows.{partition_at}
 use Rattle.machine.specs.State.{area}
-use Rattle.boards.specs.Below.{all_below}
 use Rattle.machine.specs.Step.{fits, fits_below}
 use Rattle.stage.specs.Layouts.{size_at, zeros_at, zeroed}
-
--- what holds of each number below n
-pub all-below : (test : ℕ → Bool) (n : ℕ) → ((k : ℕ) → k < n → test k ≡ true) → all_below test n ≡ true
-unfolding all_below
-all-below test zero h = refl
-all-below test (suc n) h = and_from (all_below test n) (test n) (all-below test n (λ k l. h k (omega arith))) (h n (omega arith))
 
 -- a memory of zeros has a zero everywhere
 pub zero-at : (n i : ℕ) → get_or {A = ℕ} (replicate n 0) i 0 ≡ 0

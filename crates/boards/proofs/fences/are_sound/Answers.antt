@@ -1,11 +1,7 @@
-use Rattle.std.proofs.Common.{add-one, rules}
-use Rattle.boards.specs.Below.{all_below}
+use Rattle.std.proofs.Common.{rules, tests}
+use Rattle.boards.specs.Fences.{good_fence}
+use Rattle.boards.proofs.Below.{all_below-from_all}
 use Rattle.boards.proofs.fences.are_sound.Goals as goal
 
-pub loop-i-init : goal.loop-i-init
-unfolding all_below
-loop-i-init c = search rules
-
-pub loop-i-preserved : goal.loop-i-preserved
-unfolding all_below
-loop-i-preserved c = rw add-one (search rules)
+pub returns : goal.returns
+returns c = all_below-from_all (good_fence c.args.fences.now c.args.n) 8 c.all.ensures.ran (λ x b q k. search (rules, tests))

@@ -1,11 +1,7 @@
-use Rattle.std.proofs.Common.{add-one, rules}
-use Rattle.boards.specs.Below.{all_below}
+use Rattle.std.proofs.Common.{rules, tests}
+use Rattle.boards.specs.Fences.{apart_at}
+use Rattle.boards.proofs.Below.{all_below-from_all}
 use Rattle.boards.proofs.fences.is_apart_from_earlier.Goals as goal
 
-pub loop-j-init : goal.loop-j-init
-unfolding all_below
-loop-j-init c = search rules
-
-pub loop-j-preserved : goal.loop-j-preserved
-unfolding all_below
-loop-j-preserved c = rw add-one (search rules)
+pub returns : goal.returns
+returns c = all_below-from_all (apart_at c.args.fences.now c.args.i) c.args.i c.all.ensures.ran (λ x b q k. search (rules, tests))
