@@ -1,11 +1,11 @@
 //! What the core asks of the vector's tables: who manages whom, whose port is which, and who is in whose circle.
 #![tactic(auto)]
 
+mod directory;
 mod rounds;
 mod tables;
 
-pub use rounds::circle;
+pub use directory::Directory;
 pub use tables::{
-    find_port, is_hearing, is_managing, is_member, is_owner, is_source, is_system, is_there,
-    mask_of, owner_of,
+    is_hearing, is_managing, is_member, is_source, is_system, is_there, mask_of, owner_of,
 };

@@ -16,18 +16,17 @@ pub fn is_there(tables: &Tables, q: u32) -> bool
 }
 
 pub fn is_system(tables: &Tables, q: u8) -> bool
-    requires { q < 8 }
     ensures { result ≡ is_system tables.now q }
 {
-    match tables.partitions.rows[q as usize].class {
-        Class::Standard => false,
-        Class::System => true,
-    }
+    tables
+        .partitions
+        .rows
+        .get(usize::from(q))
+        .is_some_and(|row| matches!(row.class, Class::System))
 }
 
 /// Whether q may manage the partition t: any, if it is a system partition, else itself.
 pub fn is_managing(tables: &Tables, q: u8, t: u32) -> bool
-    requires { q < 8 }
     ensures { result ≡ manages tables.now q t }
 {
     is_system(tables, q) || t == u32::from(q)
@@ -38,10 +37,7 @@ pub fn mask_of(tables: &Tables, q: u8, number: u8) -> u8
     requires { (q < 8) × (number < 8) }
     ensures { result ≡ link tables.now q number }
 {
-    match tables.partitions.rows[q as usize].links[number as usize] {
-        Some(mask) => mask,
-        None => 0,
-    }
+    tables.partitions.rows[q as usize].links[number as usize].unwrap_or(0)
 }
 
 /// Whether the mask has the partition.
@@ -65,34 +61,7 @@ pub fn owner_of(tables: &Tables, line: u8) -> Option<u8>
 pub fn is_source(direction: Direction) -> bool
     ensures { result ≡ is_source direction }
 {
-    match direction {
-        Direction::Source => true,
-        Direction::Destination => false,
-    }
-}
-
-pub(crate) fn is_kind(kind: ChannelKind, other: ChannelKind) -> bool
-    ensures { result ≡ same_kind kind other }
-{
-    match (kind, other) {
-        (ChannelKind::Sampling, ChannelKind::Sampling)
-        | (ChannelKind::Queuing, ChannelKind::Queuing) => true,
-        (ChannelKind::Sampling, ChannelKind::Queuing)
-        | (ChannelKind::Queuing, ChannelKind::Sampling) => false,
-    }
-}
-
-/// Whether i is a port of q on a channel of this type.
-pub fn is_owner(tables: &Tables, q: u8, kind: ChannelKind, i: u32) -> bool
-    requires ported { Ported tables.now.ports }
-    requires joined { Joined tables.now.ports }
-    ensures { result ≡ owns tables.now q kind i }
-{
-    if i as usize >= tables.ports.count {
-        return false;
-    }
-    let port = &tables.ports.rows[i as usize];
-    port.partition == q && is_kind(tables.channels.rows[port.channel as usize].kind, kind)
+    matches!(direction, Direction::Source)
 }
 
 /// Whether port i is a destination of the channel c.
@@ -102,46 +71,4 @@ pub fn is_hearing(tables: &Tables, c: u8, i: usize) -> bool
 {
     let port = &tables.ports.rows[i];
     port.channel == c && !is_source(port.direction)
-}
-
-/// Whether i is a port of q of this type and name.
-fn is_port(tables: &Tables, q: u8, kind: ChannelKind, name: &Name, i: usize) -> bool
-    requires there { i < tables.now.ports.count }
-    requires ported { Ported tables.now.ports }
-    requires joined { Joined tables.now.ports }
-    ensures { result ≡ (owns tables.now q kind i && same_name (port_at tables.now i).name name.now) }
-{
-    is_owner(tables, q, kind, i as u32) && tables.ports.rows[i].name.is(name)
-}
-
-/// The number, where the test holds, else what was found before.
-fn pick(test: bool, i: u8, before: Option<u8>) -> Option<u8>
-    ensures { result ≡ (if test then Some i else before) }
-{
-    if test { Some(i) } else { before }
-}
-
-/// The number of q's port of this type and name among the first n.
-fn find_among(tables: &Tables, q: u8, kind: ChannelKind, name: &Name, n: usize) -> Option<u8>
-    requires n { n ≤ tables.now.ports.count }
-    requires ported { Ported tables.now.ports }
-    requires joined { Joined tables.now.ports }
-    ensures is { result ≡ named tables.now q kind name.now n }
-    ensures there { IfSome result (λ i. i < n) }
-{
-    let mut found = None;
-    for i in 0..n {
-        found = pick(is_port(tables, q, kind, name, i), i as u8, found);
-    }
-    found
-}
-
-/// The number of q's port of this type and name.
-pub fn find_port(tables: &Tables, q: u8, kind: ChannelKind, name: &Name) -> Option<u8>
-    requires ported { Ported tables.now.ports }
-    requires joined { Joined tables.now.ports }
-    ensures is { result ≡ named tables.now q kind name.now tables.now.ports.count }
-    ensures there { IfSome result (λ i. i < tables.now.ports.count) }
-{
-    find_among(tables, q, kind, name, tables.ports.count)
 }

@@ -1,6 +1,6 @@
 use Rattle.std.proofs.Common.{◌≡◌, ap, ◌∙◌, add-one, arith, rules}
 use Rattle.machine.specs.Circle.{turns, with_port, with_links}
-use Rattle.lookup.proofs.rounds.with_round.Goals as goal
+use Rattle.lookup.proofs.directory.Directory.with_round.Goals as goal
 
 pub loop-i-init : goal.loop-i-init
 unfolding turns
@@ -12,10 +12,10 @@ loop-i-preserved c = rw add-one (search rules)
 
 pub loop-q-preserved : goal.loop-q-preserved
 unfolding turns
-loop-q-preserved c = rw add-one (c.with_links-found.ensures ∙ ap (with_links c.args.tables.now c.loop-q.q) c.loop-q.invariant)
+loop-q-preserved c = rw add-one (c.with_links-found.ensures ∙ ap (with_links c.args.self.now.tables.now c.loop-q.q) c.loop-q.invariant)
 
 pub loop-q-init : goal.loop-q-init
 unfolding turns
 loop-q-init c =
-    let e : c.loop-i.i ≡ c.args.tables.now.ports.count = omega arith in
-    c.loop-i.invariant ∙ ap (λ n. turns (with_port c.args.tables.now) n c.args.mask) e
+    let e : c.loop-i.i ≡ c.args.self.now.tables.now.ports.count = omega arith in
+    c.loop-i.invariant ∙ ap (λ n. turns (with_port c.args.self.now.tables.now) n c.args.mask) e

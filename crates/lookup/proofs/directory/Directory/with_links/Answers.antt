@@ -1,6 +1,6 @@
 use Rattle.std.proofs.Common.{add-one, rules}
 use Rattle.machine.specs.Circle.{turns}
-use Rattle.lookup.proofs.rounds.with_links.Goals as goal
+use Rattle.lookup.proofs.directory.Directory.with_links.Goals as goal
 
 pub loop-n-init : goal.loop-n-init
 unfolding turns
