@@ -1,6 +1,6 @@
 -- The clock stands within the frame of a plan that is there.
 use Rattle.std.specs.Prelude.{◌+◌, ◌<◌, ◌≤◌}
-use Rattle.vector.specs.declared.tables.Plans.{Plans}
+use Rattle.vector.specs.Tables.{Plans}
 use Rattle.machine.specs.declared.clock.Clock.{Clock}
 use Rattle.machine.specs.Time.{plan_at}
 

@@ -1,6 +1,6 @@
 -- What a system's tables keep, in parts: a ghost field states each.
 use Rattle.std.specs.Prelude.{ℕ, ◌<◌, ◌≤◌, slice_index_or}
-use Rattle.vector.specs.declared.tables.Plans.{Plans}
+use Rattle.vector.specs.Tables.{Plans}
 use Rattle.vector.specs.declared.tables.Tables.{Tables}
 use Rattle.vector.specs.Fair.{channel_at}
 use Rattle.vector.specs.Blank.{slot0}

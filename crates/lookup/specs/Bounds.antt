@@ -1,6 +1,6 @@
 -- What the tables of a checked vector keep, as far as lookups rest on it.
 use Rattle.std.specs.Prelude.{◌≡◌, ℕ, ◌<◌, ◌≤◌, List, get_or, Some, None, Option, slice_index_or}
-use Rattle.vector.specs.declared.tables.Ports.{Ports}
+use Rattle.vector.specs.Tables.{Ports}
 use Rattle.vector.specs.Blank.{port0}
 
 -- at most 32 ports

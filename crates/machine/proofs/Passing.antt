@@ -1,7 +1,7 @@
 -- What the passing of time leaves: calm partitions stay calm, the time does not go back, and a plan stays until its frame ends.
 use Rattle.std.proofs.Common.{◌≡◌, ℕ, zero, suc, ◌≤◌, false, refl, ap, ◌∙◌, arith}
 use Rattle.std.proofs.lemmas.Bool.{or_parts, cond-false, cond_both}
-use Rattle.vector.specs.declared.tables.Plans.{Plans}
+use Rattle.vector.specs.Tables.{Plans}
 use Rattle.machine.specs.declared.clock.Clock.{Clock}
 use Rattle.machine.specs.Time.{Timed, rolled, wake_at, micro, micros}
 use Rattle.machine.specs.Laws.{frame_ends, ends_within}

@@ -28,7 +28,7 @@ abbrev pub plan : Tables → ℕ → Plan
 plan k i = slice_index_or k.plans.rows i plan0
 
 abbrev pub slots_of : Plan → List Slot
-slots_of p = take p.count p.slots
+slots_of p = take p.slots.count p.slots.rows
 
 -- does the slot run at this offset of the frame
 abbrev pub covers : Slot → ℕ → Bool

@@ -1,6 +1,6 @@
 -- How time passes: microsecond by microsecond.
 use Rattle.std.specs.Prelude.{ℕ, zero, suc, ◌+◌, ◌-◌, Bool, false, cond, ◌&&◌, ◌||◌, List, [], ◌∷◌, ◌==◌, slice_index_or}
-use Rattle.vector.specs.declared.tables.Plans.{Plans}
+use Rattle.vector.specs.Tables.{Plans}
 use Rattle.vector.specs.declared.tables.Plan.{Plan}
 use Rattle.vector.specs.declared.tables.Slot.{Slot}
 use Rattle.vector.specs.Blank.{plan0}
