@@ -5,11 +5,12 @@ ghost use Rattle.std.specs.Prelude.{◌≡◌, ◌-◌, ◌<◌, ◌≤◌};
 ghost use Rattle.vector.specs.Sound.{SoundPlan, SoundPlans};
 ghost use Rattle.machine.specs.Questions.{slots_of};
 ghost use Rattle.machine.specs.Time.{plan_at, timed, micros};
-ghost use Rattle.clock.specs.Ranges.{within, wake, upto};
+ghost use Rattle.clock.specs.Ranges.{wake, upto};
 ghost use Rattle.clock.specs.Timely.{Timely};
 
 use machine::clock::{Clock, Time};
 use machine::partition::Partition;
+use std::ops::Range;
 use vector::tables::{Plan, Plans};
 
 /// Goes on to the time t at a stroke: what t - now microseconds come to, at a cost that does not grow with them.
@@ -37,12 +38,9 @@ fn pass_within(plans: &Plans, clock: &mut Clock, parts: &mut [Partition; 8], t: 
     ensures is { timed clock.new parts.new ≡ micros plans.now (t - clock.old.time) (timed clock.old parts.old) }
 {
     // who is due at the present offset has been woken when it came
-    wake(
-        &plans.rows[clock.plan as usize],
-        parts,
-        clock.time - clock.start + 1,
-        t - clock.start + 1,
-    );
+    let plan = &plans.rows[clock.plan as usize];
+    let offset = clock.time - clock.start;
+    wake(plan, parts, offset + 1..t - clock.start + 1);
     clock.time = t;
 }
 
@@ -59,8 +57,9 @@ fn pass_over(plans: &Plans, clock: &mut Clock, parts: &mut [Partition; 8], t: Ti
     let plan = &plans.rows[clock.plan as usize];
     let next = &plans.rows[clock.next as usize];
     let rest = t - clock.start - plan.frame;
-    wake(plan, parts, clock.time - clock.start + 1, plan.frame);
-    wake(next, parts, 0, upto(rest, next.frame));
+    let offset = clock.time - clock.start;
+    wake(plan, parts, offset + 1..plan.frame);
+    wake(next, parts, 0..upto(rest, next.frame));
     *clock = Clock {
         time: t,
         plan: clock.next,
@@ -69,21 +68,14 @@ fn pass_over(plans: &Plans, clock: &mut Clock, parts: &mut [Partition; 8], t: Ti
     };
 }
 
-/// Wakes each idle partition that has a slot starting within lo..hi.
-fn wake(plan: &Plan, parts: &mut [Partition; 8], lo: Time, hi: Time)
+/// Wakes each idle partition that has a slot starting at one of the offsets.
+fn wake(plan: &Plan, parts: &mut [Partition; 8], offsets: Range<Time>)
     requires { SoundPlan plan.now }
-    ensures { parts.new ≡ wake (slots_of plan.now) lo hi parts.old }
+    ensures { parts.new ≡ wake (slots_of plan.now) offsets.start offsets.end parts.old }
 {
-    for i in 0..plan.count {
-        let slot = plan.slots[i];
-        parts[slot.partition as usize].wake(is_within(slot.start, lo, hi));
+    for slot in plan.slots.as_slice() {
+        parts[slot.partition as usize].wake(offsets.contains(&slot.start));
     }
-}
-
-fn is_within(offset: Time, lo: Time, hi: Time) -> bool
-    ensures { result ≡ within lo hi offset }
-{
-    lo <= offset && offset < hi
 }
 
 /// The offsets below this one have come, rest microseconds after a frame began: after a whole frame, all of them.

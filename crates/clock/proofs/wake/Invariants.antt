@@ -3,5 +3,5 @@ use Rattle.clock.specs.Ranges.{wake}
 use Rattle.clock.proofs.wake.Given as goal
 
 -- the slots so far have woken theirs
-abbrev pub invariant-loop-i : goal.invariant-loop-i
-invariant-loop-i l = l.parts ≡ wake (take l.i l.plan.slots) l.lo l.hi l.initial.parts
+abbrev pub invariant-loop-slot : goal.invariant-loop-slot
+invariant-loop-slot l = l.parts ≡ wake (take l.slot-index l.slot-items) l.offsets.start l.offsets.end l.initial.parts
