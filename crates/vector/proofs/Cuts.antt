@@ -1,5 +1,5 @@
--- What is left after the first bytes of a slice pattern, and the cut of a record.
-use Rattle.std.proofs.Common.{◌≡◌, ℕ, ◌+◌, ◌-◌, ◌≤◌, true, cond, ltb, List, ◌∷◌, ◌++◌, length, get_or, take, drop, sym, refl, ap, ◌∙◌, subst, ap₂, arith, length-drop, take-append-drop, length-take-le, take_all, drop-drop}
+-- The cut of a record.
+use Rattle.std.proofs.Common.{◌≡◌, ℕ, ◌+◌, ◌≤◌, true, cond, ltb, List, ◌∷◌, ◌++◌, length, get_or, take, drop, sym, refl, ap, ◌∙◌, subst, ap₂, arith, length-drop, take-append-drop, length-take-le, drop-drop}
 use Rattle.std.proofs.lemmas.Bool.{le-ltb, ltb-false}
 use Rattle.vector.specs.Reasons.{past_end, wrong_length}
 use Rattle.vector.specs.Encoding.{Bytes, two}
@@ -9,10 +9,6 @@ use Rattle.vector.specs.Turns.{kind_number}
 use Rattle.vector.specs.declared.record.Kind.{Kind}
 use Rattle.vector.proofs.Numbers.{kind-number, two_of, open_4}
 use Rattle.vector.proofs.Outs.{then-fine, cond-fine, cond-bad}
-
--- the rest of a slice pattern with n names before it
-pub after : (n : ℕ) (bs : List ℕ) → take (length bs - n) (drop n bs) ≡ drop n bs
-after n bs = take_all (length bs - n) (drop n bs) (omega (arith, length-drop n bs))
 
 pub framed-fine : (at : ℕ) (bs : List ℕ) (k : Kind) → 4 ≤ length bs → 4 + word16 bs 0 ≤ length bs → fine k ≡ kind_of at (word16 bs 2) → true ≡ suits k (word16 bs 0) → framed at bs ≡ fine (record { kind = k; body = take (word16 bs 0) (drop 4 bs); rest = drop (4 + word16 bs 0) bs })
 framed-fine at bs k h j is s =

@@ -1,6 +1,5 @@
 pub mod Outs
 pub mod Lists
-pub mod Texts
 pub mod Numbers
 pub mod Cuts
 pub mod Told

@@ -68,10 +68,14 @@ later_action at a =
     (cond (a == 5) (fine ColdReset)
     (bad (out_of_range at))))
 
--- 0 ignore, 1 signal, 2 suspend, 3 halt, 4 warm reset, 5 cold reset; the system has no 1 and no 2
-abbrev pub action_of : Scope → ℕ → ℕ → Out Action
-action_of (scopes.Partition p) at a =
+-- 0 ignore, 1 signal, 2 suspend, 3 halt, 4 warm reset, 5 cold reset
+abbrev pub any_action : ℕ → ℕ → Out Action
+any_action at a =
     cond (a == 0) (fine Ignore) (cond (a == 1) (fine Signal) (cond (a == 2) (fine Suspend) (later_action at a)))
+
+-- the system has no signal and no suspend
+abbrev pub action_of : Scope → ℕ → ℕ → Out Action
+action_of (scopes.Partition p) at a = any_action at a
 action_of scopes.System at a = cond (a == 0) (fine Ignore) (later_action at a)
 
 -- 0 is no, 1 is yes

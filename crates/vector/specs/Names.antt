@@ -1,5 +1,6 @@
 -- Names, and whether one was given before.
-use Rattle.std.specs.Prelude.{ℕ, Bool, false, ◌&&◌, ◌||◌, List, [], ◌∷◌, ◌++◌, length, drop, replicate, ◌==◌}
+use Rattle.std.specs.Prelude.{ℕ, Bool, ◌&&◌, ◌||◌, List, ◌++◌, length, drop, replicate, ◌==◌}
+use Rattle.std.specs.List.{list_any}
 use Rattle.std.specs.Str.{bytes_eq}
 use Rattle.vector.specs.declared.tables.Name.{Name}
 use Rattle.vector.specs.declared.tables.PartitionRow.{PartitionRow}
@@ -16,8 +17,7 @@ same_name m n = m.length == n.length && bytes_eq m.bytes n.bytes
 module _ {A : Type 0} where
   -- one of the list passes the test
   abbrev pub any : (A → Bool) → List A → Bool
-  any test [] = false
-  any test (x ∷ xs) = test x || any test xs
+  any test xs = list_any test xs
 
 abbrev pub has_name : Name → PartitionRow → Bool
 has_name n r = same_name r.name n

@@ -1,5 +1,5 @@
 -- What a test of the vector answers: a value, or the reason of a refusal.
-use Rattle.std.specs.Prelude.{Ok, Err, Result}
+use Rattle.std.specs.Prelude.{◌≡◌, ℕ, Ok, Err, Result}
 use Rattle.vector.specs.Reasons.{Reason}
 
 pub data Out (X : Type 0) : Type 0 where
@@ -22,3 +22,8 @@ module _ {X Y : Type 0} where
   abbrev pub pass : Out X → Out Y → Out Y
   pass (fine x) o = o
   pass (bad r) o = bad r
+
+module _ {X E : Type 0} where
+  -- what a number stands for, as the test at any place answers; where it stands for nothing, the test has this fault
+  abbrev pub Reads : (ℕ → ℕ → Out X) → (ℕ → Reason) → ℕ → Result X E → Type 0
+  Reads test fault n r = (at : ℕ) → out (λ _. fault at) (λ x. x) r ≡ test at n

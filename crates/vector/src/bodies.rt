@@ -1,79 +1,92 @@
-// The bodies of the records, field by field from the left; `at` is the place of the body's first byte.
-ghost use Rattle.std.specs.Prelude.{◌≡◌, ◌+◌, ◌^◌, ◌<◌, ◌≤◌, true, length};
+// The bodies of the records, field by field from the left.
+ghost use Rattle.std.specs.Prelude.{◌≡◌, ◌+◌, ◌^◌, ◌<◌, ◌≤◌, true, length, drop};
 ghost use Rattle.vector.specs.Out.{out};
 ghost use Rattle.vector.specs.Reasons.{field_reason};
 ghost use Rattle.vector.specs.Frames.{suits};
-ghost use Rattle.vector.specs.Bodies.{said_of, header_of, partition_of, plan_of, slot_of, channel_of, port_of, ipvi_of, line_of, action_said, said_by};
+ghost use Rattle.vector.specs.Bodies.{name_of, said_of, header_of, partition_of, plan_of, slot_of, channel_of, port_of, ipvi_of, line_of, action_said, said_by};
 
 use crate::fault::FieldFault;
 use crate::fields::{
-    action_by, channel_kind_by, class_by, flag_by, in_range, is_direction, is_event, is_mask,
-    is_there, long, scope_by,
+    action_by, flag_by, in_range, is_direction, is_event, is_mask, is_there, known, scope_by,
 };
-use crate::frame::word;
 use crate::record::{Kind, NameIn, Record};
 use crate::sofar::Sofar;
-use crate::tables::Direction;
+use crate::tables::{ChannelKind, Class, Direction};
 
-fn header<'a>(body: &'a [u8], at: usize) -> Result<Record<'a>, FieldFault>
-    requires { (length body.now ≡ 2) × (at + 2 < 2 ^ 64) }
-    ensures { out field_reason said_of result ≡ header_of at body.now }
+/// The bytes of a record's body, and the place of the first one.
+#[derive(Clone, Copy)]
+pub(crate) struct Body<'a> {
+    pub(crate) bytes: &'a [u8],
+    pub(crate) at: usize,
+    ghost small: { at + length bytes.now < 2 ^ 64 },
+}
+
+impl<'a> Body<'a> {
+    /// The name that goes from byte `n` to the end of the body.
+    fn name_from(self, n: usize) -> NameIn<'a>
+        requires { n ≤ length self.bytes.now }
+        ensures { name_of result ≡ record { at = self.entry.at + n; bytes = drop n self.entry.bytes.now } }
+    {
+        NameIn {
+            bytes: &self.bytes[n..],
+            at: self.at + n,
+        }
+    }
+}
+
+fn header<'a>(body: Body<'a>) -> Result<Record<'a>, FieldFault>
+    requires { length body.bytes.now ≡ 2 }
+    ensures { out field_reason said_of result ≡ header_of body.entry.at body.entry.bytes.now }
 {
-    let [partitions, plans] = body else {
+    let [partitions, plans] = body.bytes else {
         unreachable()
     };
-    in_range(*partitions as u32, 1, 8, at)?;
-    in_range(*plans as u32, 1, 4, at + 1)?;
+    in_range(*partitions as u32, 1, 8, body.at)?;
+    in_range(*plans as u32, 1, 4, body.at + 1)?;
     Ok(Record::Header {
         partitions: *partitions,
         plans: *plans,
     })
 }
 
-fn partition<'a>(body: &'a [u8], at: usize) -> Result<Record<'a>, FieldFault>
-    requires { (4 ≤ length body.now) × (at + length body.now < 2 ^ 64) }
-    ensures { out field_reason said_of result ≡ partition_of at body.now }
+fn partition<'a>(body: Body<'a>) -> Result<Record<'a>, FieldFault>
+    requires { 4 ≤ length body.bytes.now }
+    ensures { out field_reason said_of result ≡ partition_of body.entry.at body.entry.bytes.now }
 {
-    let [class, s0, s1, name @ ..] = body else {
+    let [class, s0, s1, ..] = body.bytes else {
         unreachable()
     };
-    let class = class_by(*class, at)?;
-    let size = word(*s0, *s1);
-    in_range(size as u32, 1, 1024, at + 1)?;
-    Ok(Record::Partition {
-        class,
-        size,
-        name: NameIn {
-            bytes: name,
-            at: at + 3,
-        },
-    })
+    let class = known(Class::try_from(*class), body.at)?;
+    let size = u16::from_le_bytes([*s0, *s1]);
+    in_range(size as u32, 1, 1024, body.at + 1)?;
+    let name = body.name_from(3);
+    Ok(Record::Partition { class, size, name })
 }
 
-fn plan<'a>(body: &'a [u8], at: usize) -> Result<Record<'a>, FieldFault>
-    requires { length body.now ≡ 4 }
-    ensures { out field_reason said_of result ≡ plan_of at body.now }
+fn plan<'a>(body: Body<'a>) -> Result<Record<'a>, FieldFault>
+    requires { length body.bytes.now ≡ 4 }
+    ensures { out field_reason said_of result ≡ plan_of body.entry.at body.entry.bytes.now }
 {
-    let [f0, f1, f2, f3] = body else {
+    let [f0, f1, f2, f3] = body.bytes else {
         unreachable()
     };
-    let frame = long(*f0, *f1, *f2, *f3);
-    in_range(frame, 1, 1_000_000, at)?;
+    let frame = u32::from_le_bytes([*f0, *f1, *f2, *f3]);
+    in_range(frame, 1, 1_000_000, body.at)?;
     Ok(Record::Plan { frame })
 }
 
-fn slot<'a>(body: &'a [u8], at: usize, partitions: u8) -> Result<Record<'a>, FieldFault>
-    requires { (length body.now ≡ 9) × (at + 9 < 2 ^ 64) }
-    ensures { out field_reason said_of result ≡ slot_of partitions at body.now }
+fn slot<'a>(body: Body<'a>, partitions: u8) -> Result<Record<'a>, FieldFault>
+    requires { length body.bytes.now ≡ 9 }
+    ensures { out field_reason said_of result ≡ slot_of partitions body.entry.at body.entry.bytes.now }
 {
-    let [partition, s0, s1, s2, s3, d0, d1, d2, d3] = body else {
+    let [partition, s0, s1, s2, s3, d0, d1, d2, d3] = body.bytes else {
         unreachable()
     };
-    is_there(*partition, partitions, at)?;
-    let start = long(*s0, *s1, *s2, *s3);
-    in_range(start, 0, 999_999, at + 1)?;
-    let duration = long(*d0, *d1, *d2, *d3);
-    in_range(duration, 1, 1_000_000, at + 5)?;
+    is_there(*partition, partitions, body.at)?;
+    let start = u32::from_le_bytes([*s0, *s1, *s2, *s3]);
+    in_range(start, 0, 999_999, body.at + 1)?;
+    let duration = u32::from_le_bytes([*d0, *d1, *d2, *d3]);
+    in_range(duration, 1, 1_000_000, body.at + 5)?;
     Ok(Record::Slot {
         partition: *partition,
         start,
@@ -81,17 +94,17 @@ fn slot<'a>(body: &'a [u8], at: usize, partitions: u8) -> Result<Record<'a>, Fie
     })
 }
 
-fn channel<'a>(body: &'a [u8], at: usize) -> Result<Record<'a>, FieldFault>
-    requires { (length body.now ≡ 4) × (at + 4 < 2 ^ 64) }
-    ensures { out field_reason said_of result ≡ channel_of at body.now }
+fn channel<'a>(body: Body<'a>) -> Result<Record<'a>, FieldFault>
+    requires { length body.bytes.now ≡ 4 }
+    ensures { out field_reason said_of result ≡ channel_of body.entry.at body.entry.bytes.now }
 {
-    let [kind, l0, l1, depth] = body else {
+    let [kind, l0, l1, depth] = body.bytes else {
         unreachable()
     };
-    let kind = channel_kind_by(*kind, at)?;
-    let longest = word(*l0, *l1);
-    in_range(longest as u32, 1, 64, at + 1)?;
-    in_range(*depth as u32, 1, kind.deepest(), at + 3)?;
+    let kind = known(ChannelKind::try_from(*kind), body.at)?;
+    let longest = u16::from_le_bytes([*l0, *l1]);
+    in_range(longest as u32, 1, 64, body.at + 1)?;
+    in_range(*depth as u32, 1, kind.deepest(), body.at + 3)?;
     Ok(Record::Channel {
         kind,
         longest,
@@ -99,40 +112,32 @@ fn channel<'a>(body: &'a [u8], at: usize) -> Result<Record<'a>, FieldFault>
     })
 }
 
-fn port<'a>(
-    body: &'a [u8],
-    at: usize,
-    partitions: u8,
-    direction: Direction,
-) -> Result<Record<'a>, FieldFault>
-    requires { (3 ≤ length body.now) × (at + length body.now < 2 ^ 64) }
-    ensures { out field_reason said_of result ≡ port_of partitions direction at body.now }
+fn port<'a>(body: Body<'a>, partitions: u8, direction: Direction) -> Result<Record<'a>, FieldFault>
+    requires { 3 ≤ length body.bytes.now }
+    ensures { out field_reason said_of result ≡ port_of partitions direction body.entry.at body.entry.bytes.now }
 {
-    let [partition, number, name @ ..] = body else {
+    let [partition, number, ..] = body.bytes else {
         unreachable()
     };
-    is_there(*partition, partitions, at)?;
-    is_direction(*number, direction, at + 1)?;
+    is_there(*partition, partitions, body.at)?;
+    is_direction(*number, direction, body.at + 1)?;
     Ok(Record::Port {
         partition: *partition,
         direction,
-        name: NameIn {
-            bytes: name,
-            at: at + 2,
-        },
+        name: body.name_from(2),
     })
 }
 
-fn ipvi<'a>(body: &'a [u8], at: usize, partitions: u8) -> Result<Record<'a>, FieldFault>
-    requires { (length body.now ≡ 3) × ((at + 3 < 2 ^ 64) × (partitions ≤ 8)) }
-    ensures { out field_reason said_of result ≡ ipvi_of partitions at body.now }
+fn ipvi<'a>(body: Body<'a>, partitions: u8) -> Result<Record<'a>, FieldFault>
+    requires { (length body.bytes.now ≡ 3) × (partitions ≤ 8) }
+    ensures { out field_reason said_of result ≡ ipvi_of partitions body.entry.at body.entry.bytes.now }
 {
-    let [number, source, mask] = body else {
+    let [number, source, mask] = body.bytes else {
         unreachable()
     };
-    in_range(*number as u32, 0, 7, at)?;
-    is_there(*source, partitions, at + 1)?;
-    is_mask(*mask, *source, partitions, at + 2)?;
+    in_range(*number as u32, 0, 7, body.at)?;
+    is_there(*source, partitions, body.at + 1)?;
+    is_mask(*mask, *source, partitions, body.at + 2)?;
     Ok(Record::Ipvi {
         number: *number,
         source: *source,
@@ -140,32 +145,32 @@ fn ipvi<'a>(body: &'a [u8], at: usize, partitions: u8) -> Result<Record<'a>, Fie
     })
 }
 
-fn line<'a>(body: &'a [u8], at: usize, partitions: u8) -> Result<Record<'a>, FieldFault>
-    requires { (length body.now ≡ 2) × (at + 2 < 2 ^ 64) }
-    ensures { out field_reason said_of result ≡ line_of partitions at body.now }
+fn line<'a>(body: Body<'a>, partitions: u8) -> Result<Record<'a>, FieldFault>
+    requires { length body.bytes.now ≡ 2 }
+    ensures { out field_reason said_of result ≡ line_of partitions body.entry.at body.entry.bytes.now }
 {
-    let [line, partition] = body else {
+    let [line, partition] = body.bytes else {
         unreachable()
     };
-    in_range(*line as u32, 0, 15, at)?;
-    is_there(*partition, partitions, at + 1)?;
+    in_range(*line as u32, 0, 15, body.at)?;
+    is_there(*partition, partitions, body.at + 1)?;
     Ok(Record::Line {
         line: *line,
         partition: *partition,
     })
 }
 
-fn action<'a>(body: &'a [u8], at: usize, partitions: u8) -> Result<Record<'a>, FieldFault>
-    requires { (length body.now ≡ 4) × (at + 4 < 2 ^ 64) }
-    ensures { out field_reason said_of result ≡ action_said partitions at body.now }
+fn action<'a>(body: Body<'a>, partitions: u8) -> Result<Record<'a>, FieldFault>
+    requires { length body.bytes.now ≡ 4 }
+    ensures { out field_reason said_of result ≡ action_said partitions body.entry.at body.entry.bytes.now }
 {
-    let [scope, event, action, log] = body else {
+    let [scope, event, action, log] = body.bytes else {
         unreachable()
     };
-    let scope = scope_by(*scope, partitions, at)?;
-    is_event(*event, scope, at + 1)?;
-    let action = action_by(*action, scope, at + 2)?;
-    let log = flag_by(*log, at + 3)?;
+    let scope = scope_by(*scope, partitions, body.at)?;
+    is_event(*event, scope, body.at + 1)?;
+    let action = action_by(*action, scope, body.at + 2)?;
+    let log = flag_by(*log, body.at + 3)?;
     Ok(Record::Action {
         scope,
         event: *event,
@@ -177,24 +182,22 @@ fn action<'a>(body: &'a [u8], at: usize, partitions: u8) -> Result<Record<'a>, F
 /// What a body of this kind says, after what the records so far have said.
 pub(crate) fn read_body<'a>(
     kind: Kind,
-    body: &'a [u8],
-    at: usize,
+    body: Body<'a>,
     sofar: &Sofar,
 ) -> Result<Record<'a>, FieldFault>
-    requires suited { suits kind (length body.now) ≡ true }
-    requires small { at + length body.now < 2 ^ 64 }
+    requires suited { suits kind (length body.bytes.now) ≡ true }
     requires few { sofar.now.partitions ≤ 8 }
-    ensures { out field_reason said_of result ≡ said_by kind sofar.now at body.now }
+    ensures { out field_reason said_of result ≡ said_by kind sofar.now body.entry.at body.entry.bytes.now }
 {
     match kind {
-        Kind::Header => header(body, at),
-        Kind::Partition => partition(body, at),
-        Kind::Plan => plan(body, at),
-        Kind::Slot => slot(body, at, sofar.partitions),
-        Kind::Channel => channel(body, at),
-        Kind::Port => port(body, at, sofar.partitions, sofar.tables.next_direction()),
-        Kind::Ipvi => ipvi(body, at, sofar.partitions),
-        Kind::Line => line(body, at, sofar.partitions),
-        Kind::Action => action(body, at, sofar.partitions),
+        Kind::Header => header(body),
+        Kind::Partition => partition(body),
+        Kind::Plan => plan(body),
+        Kind::Slot => slot(body, sofar.partitions),
+        Kind::Channel => channel(body),
+        Kind::Port => port(body, sofar.partitions, sofar.tables.next_direction()),
+        Kind::Ipvi => ipvi(body, sofar.partitions),
+        Kind::Line => line(body, sofar.partitions),
+        Kind::Action => action(body, sofar.partitions),
     }
 }

@@ -3,7 +3,11 @@
 ghost use Rattle.std.specs.Prelude.{◌≡◌};
 ghost use Rattle.vector.specs.declared.fault.Refusal.TheVariants.{Frame, Field, Relation};
 
-#[derive(Clone, Copy)]
+/// A number that stands for no kind, class or action.
+#[derive(Clone, Copy, Debug, PartialEq, Eq)]
+pub struct UnknownNumber;
+
+#[derive(Clone, Copy, Debug, PartialEq, Eq)]
 pub enum FrameFault {
     /// A record passes the end of the vector.
     PastEnd { at: usize },
@@ -15,12 +19,12 @@ pub enum FrameFault {
     Owed { at: usize },
 }
 
-#[derive(Clone, Copy)]
+#[derive(Clone, Copy, Debug, PartialEq, Eq)]
 pub enum FieldFault {
     OutOfRange { at: usize },
 }
 
-#[derive(Clone, Copy)]
+#[derive(Clone, Copy, Debug, PartialEq, Eq)]
 pub enum RelationFault {
     TooMany { at: usize },
     Repeated { at: usize },
@@ -28,14 +32,14 @@ pub enum RelationFault {
     Misplaced { at: usize },
 }
 
-#[derive(Clone, Copy)]
+#[derive(Clone, Copy, Debug, PartialEq, Eq)]
 pub enum Refusal {
     Frame(FrameFault),
     Field(FieldFault),
     Relation(RelationFault),
 }
 
-#[derive(Clone, Copy)]
+#[derive(Clone, Copy, Debug, PartialEq, Eq)]
 pub enum Layer {
     Frame,
     Field,

@@ -1,25 +1,27 @@
 // Single fields of a record's body. Each is in its range, or refused at its first byte.
-ghost use Rattle.std.specs.Prelude.{◌≡◌, ◌+◌, ◌*◌, ◌<◌, ◌≤◌};
+ghost use Rattle.std.specs.Prelude.{◌≡◌, ◌<◌, ◌≤◌};
 ghost use Rattle.vector.specs.Out.{out};
-ghost use Rattle.vector.specs.Reasons.{field_reason};
-ghost use Rattle.vector.specs.Fields.{within, existing, class_of, channel_kind_of, deepest, direction_number, directed, has_bit, masked, scope_of, event_of, action_of, flag_of};
+ghost use Rattle.vector.specs.Reasons.{field_reason, out_of_range};
+ghost use Rattle.vector.specs.Fields.{within, existing, deepest, directed, has_bit, masked, scope_of, event_of, action_of, flag_of};
 
-use crate::fault::FieldFault;
-use crate::frame::word;
+use crate::fault::{FieldFault, UnknownNumber};
 use crate::record::Scope;
-use crate::tables::{Action, ChannelKind, Class, Direction};
+use crate::tables::{Action, ChannelKind, Direction};
 
-/// Four bytes, the low one first.
-pub(crate) fn long(a: u8, b: u8, c: u8, d: u8) -> u32
-    ensures { result ≡ (a + 256 * b) + 65536 * (c + 256 * d) }
+/// The value that a number stands for; a number that stands for nothing is refused at its place.
+pub(crate) fn known<T>(read: Result<T, UnknownNumber>, at: usize) -> Result<T, FieldFault>
+    ensures { out field_reason (λ t. t) result ≡ out (λ _. out_of_range at) (λ t. t) read }
 {
-    word(a, b) as u32 + 65536 * word(c, d) as u32
+    match read {
+        Ok(value) => Ok(value),
+        Err(UnknownNumber) => Err(FieldFault::OutOfRange { at }),
+    }
 }
 
 pub(crate) fn in_range(value: u32, low: u32, high: u32, at: usize) -> Result<(), FieldFault>
     ensures { out field_reason (λ u. u) result ≡ within low high at value }
 {
-    if low <= value && value <= high {
+    if (low..=high).contains(&value) {
         Ok(())
     } else {
         Err(FieldFault::OutOfRange { at })
@@ -37,26 +39,6 @@ pub(crate) fn is_there(partition: u8, partitions: u8, at: usize) -> Result<(), F
     }
 }
 
-pub(crate) fn class_by(number: u8, at: usize) -> Result<Class, FieldFault>
-    ensures { out field_reason (λ c. c) result ≡ class_of at number }
-{
-    match number {
-        0 => Ok(Class::Standard),
-        1 => Ok(Class::System),
-        _ => Err(FieldFault::OutOfRange { at }),
-    }
-}
-
-pub(crate) fn channel_kind_by(number: u8, at: usize) -> Result<ChannelKind, FieldFault>
-    ensures { out field_reason (λ k. k) result ≡ channel_kind_of at number }
-{
-    match number {
-        0 => Ok(ChannelKind::Sampling),
-        1 => Ok(ChannelKind::Queuing),
-        _ => Err(FieldFault::OutOfRange { at }),
-    }
-}
-
 impl ChannelKind {
     /// The most messages that a channel of this kind may hold.
     pub(crate) fn deepest(self) -> u32
@@ -69,22 +51,11 @@ impl ChannelKind {
     }
 }
 
-impl Direction {
-    fn number(self) -> u8
-        ensures { result ≡ direction_number self }
-    {
-        match self {
-            Direction::Source => 0,
-            Direction::Destination => 1,
-        }
-    }
-}
-
 /// The number is that of the direction that a port has to have.
 pub(crate) fn is_direction(number: u8, direction: Direction, at: usize) -> Result<(), FieldFault>
     ensures { out field_reason (λ u. u) result ≡ directed direction at number }
 {
-    if number == direction.number() {
+    if number == u8::from(direction) {
         Ok(())
     } else {
         Err(FieldFault::OutOfRange { at })
@@ -114,6 +85,7 @@ pub(crate) fn is_mask(mask: u8, source: u8, partitions: u8, at: usize) -> Result
 pub(crate) fn scope_by(number: u8, partitions: u8, at: usize) -> Result<Scope, FieldFault>
     ensures { out field_reason (λ s. s) result ≡ scope_of partitions at number }
 {
+    // Which numbers there are hangs on the number of partitions, so a conversion alone cannot tell.
     if number < partitions {
         Ok(Scope::Partition(number))
     } else if number == 255 {
@@ -137,20 +109,18 @@ pub(crate) fn is_event(event: u8, scope: Scope, at: usize) -> Result<(), FieldFa
 pub(crate) fn action_by(number: u8, scope: Scope, at: usize) -> Result<Action, FieldFault>
     ensures { out field_reason (λ a. a) result ≡ action_of scope at number }
 {
-    match (number, scope) {
-        (0, _) => Ok(Action::Ignore),
-        (1, Scope::Partition(_)) => Ok(Action::Signal),
-        (2, Scope::Partition(_)) => Ok(Action::Suspend),
-        (3, _) => Ok(Action::Halt),
-        (4, _) => Ok(Action::WarmReset),
-        (5, _) => Ok(Action::ColdReset),
-        _ => Err(FieldFault::OutOfRange { at }),
+    match (Action::try_from(number), scope) {
+        (Err(_), _) | (Ok(Action::Signal | Action::Suspend), Scope::System) => {
+            Err(FieldFault::OutOfRange { at })
+        }
+        (Ok(action), _) => Ok(action),
     }
 }
 
 pub(crate) fn flag_by(number: u8, at: usize) -> Result<bool, FieldFault>
     ensures { out field_reason (λ b. b) result ≡ flag_of at number }
 {
+    // Neither the trait nor `bool` is ours, so there can be no conversion by `TryFrom`.
     match number {
         0 => Ok(false),
         1 => Ok(true),

@@ -10,7 +10,7 @@ ghost use Rattle.vector.specs.Reasons.{reason, relation_reason};
 ghost use Rattle.vector.specs.Rows.{open_channel};
 ghost use Rattle.vector.specs.Sofars.{with_header, with_tables};
 
-use crate::bodies::read_body;
+use crate::bodies::{Body, read_body};
 use crate::fault::{Refusal, RelationFault};
 use crate::names::{is_clashing, is_named};
 use crate::record::{Kind, Record, Scope};
@@ -209,6 +209,10 @@ impl Sofar {
         ensures { out reason said_of result ≡ heard at self.now kind body.now }
     {
         self.turn(kind, at)?;
-        Ok(read_body(kind, body, at + 4, self)?)
+        let body = Body {
+            bytes: body,
+            at: at + 4,
+        };
+        Ok(read_body(kind, body, self)?)
     }
 }

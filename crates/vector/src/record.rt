@@ -1,8 +1,7 @@
 // The records of a vector.
-pub use crate::frame::Cut;
 use crate::tables::{Action, ChannelKind, Class, Direction};
 
-#[derive(Clone, Copy)]
+#[derive(Clone, Copy, Debug, PartialEq, Eq)]
 pub enum Kind {
     Header,
     Partition,
@@ -16,20 +15,20 @@ pub enum Kind {
 }
 
 /// Whose fault events an action is for.
-#[derive(Clone, Copy)]
+#[derive(Clone, Copy, Debug, PartialEq, Eq)]
 pub enum Scope {
     Partition(u8),
     System,
 }
 
 /// A name as a part of the vector, and the place of its first byte.
-#[derive(Clone, Copy)]
+#[derive(Clone, Copy, Debug, PartialEq, Eq)]
 pub struct NameIn<'a> {
     pub bytes: &'a [u8],
     pub at: usize,
 }
 
-#[derive(Clone, Copy)]
+#[derive(Clone, Copy, Debug, PartialEq, Eq)]
 pub enum Record<'a> {
     Header {
         partitions: u8,

@@ -1,7 +1,9 @@
 // The tables with one more row.
 ghost use Rattle.std.specs.Prelude.{◌≡◌, ◌+◌, ◌^◌, ◌<◌, ◌≤◌};
+ghost use Rattle.vector.specs.Joins.{InScope, respond};
 ghost use Rattle.vector.specs.Rows.{placed, slot_end, end_of, ported, open_plan, open_channel, add_partition, add_plan, add_slot, add_channel, add_port, add_link, add_line, add_response, add_system_response};
 
+use crate::record::Scope;
 use crate::tables::{Channel, PartitionRow, Plan, Port, Response, Slot, Tables};
 
 impl Slot {
@@ -138,5 +140,15 @@ impl Tables {
     {
         self.system[event as usize - 8] = response;
         self
+    }
+
+    pub(crate) fn respond(self, scope: Scope, event: u8, response: Response) -> Tables
+        requires { InScope scope event }
+        ensures { result ≡ respond scope event response self }
+    {
+        match scope {
+            Scope::Partition(partition) => self.with_response(partition, event, response),
+            Scope::System => self.with_system_response(event, response),
+        }
     }
 }

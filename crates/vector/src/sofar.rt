@@ -1,8 +1,9 @@
 // What the records so far have said.
 ghost use Rattle.std.specs.Prelude.{◌≡◌};
-ghost use Rattle.vector.specs.Sofars.{nothing};
+ghost use Rattle.vector.specs.Joins.{InScope};
+ghost use Rattle.vector.specs.Sofars.{nothing, is_given, giving};
 
-use crate::record::Kind;
+use crate::record::{Kind, Scope};
 use crate::tables::Tables;
 
 /// Which events of each partition, and of the system from event 8 on, the vector has given an action.
@@ -36,5 +37,29 @@ impl Sofar {
             },
             tables: Tables::blank(),
         }
+    }
+}
+
+impl Given {
+    pub(crate) fn has(&self, scope: Scope, event: u8) -> bool
+        requires { InScope scope event }
+        ensures { result ≡ is_given scope event self.now }
+    {
+        match scope {
+            Scope::Partition(partition) => self.partitions[partition as usize][event as usize],
+            Scope::System => self.system[event as usize - 8],
+        }
+    }
+
+    pub(crate) fn with(mut self, scope: Scope, event: u8) -> Given
+        requires { InScope scope event }
+        ensures { result ≡ giving scope event self }
+    {
+        match scope {
+            Scope::Partition(partition) => self.partitions[partition as usize][event as usize] =
+                true,
+            Scope::System => self.system[event as usize - 8] = true,
+        }
+        self
     }
 }

@@ -2,7 +2,7 @@
 ghost use Rattle.std.specs.Prelude.{◌≡◌, ◌+◌, ◌-◌, ◌<◌, ◌≤◌, take, replicate, slice_index_or, slice_set};
 
 /// A table of at most `N` rows; the first `count` of `rows` are there.
-#[derive(Clone, Copy)]
+#[derive(Clone, Copy, Debug, PartialEq, Eq)]
 pub struct Table<T, const N: usize> {
     pub count: usize,
     pub rows: [T; N],
