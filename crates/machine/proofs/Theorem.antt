@@ -3,7 +3,7 @@ use Rattle.std.proofs.Common.{◌≡◌, ℕ, Bool, true, false, cond, not, List
 use Rattle.std.proofs.lemmas.Bool.{both_ways, ne_eqb}
 use Rattle.vector.specs.declared.tables.Tables.{Tables}
 use Rattle.machine.specs.declared.event.Event.{Event}
-use Rattle.machine.specs.Answers.{Reply}
+use Rattle.machine.specs.declared.answer.Reply.{Reply}
 use Rattle.machine.specs.Partitions.{nobody, fresh}
 use Rattle.machine.specs.Questions.{is_system, names}
 use Rattle.machine.specs.State.{State, area}

@@ -11,7 +11,7 @@ use Rattle.machine.specs.declared.answer.Refusal.{Refusal}
 use Rattle.machine.specs.declared.answer.Refusal.TheVariants.{NoAction, UnknownHypercall, InvalidParam, PermError, InvalidConfig, InvalidMode, NotAvailable, OpNotAllowed, NotOnProcessor, SystemHalted}
 use Rattle.machine.specs.declared.answer.Answer.{Answer}
 use Rattle.machine.specs.declared.answer.Answer.TheVariants.{Done, Time, State, Plans, Port, Received, Waiting, Words, Logged, Byte, Outside, Responded}
-pub use Rattle.machine.specs.declared.answer.Reply.{Reply}
+use Rattle.machine.specs.declared.answer.Reply.{Reply}
 
 -- -1 to -10
 abbrev pub refusal_code : Refusal → ℤ

@@ -5,7 +5,7 @@ use Rattle.machine.specs.declared.partition.Partition.{Partition}
 use Rattle.machine.specs.declared.clock.Clock.{Clock}
 use Rattle.machine.specs.declared.event.Event.{Event}
 use Rattle.machine.specs.declared.event.Event.TheVariants.{Tick, Call, Load, Store, Fault, Line, SystemFault}
-use Rattle.machine.specs.Answers.{Reply}
+use Rattle.machine.specs.declared.answer.Reply.{Reply}
 use Rattle.machine.specs.Partitions.{nobody}
 use Rattle.machine.specs.Questions.{exists, is_system, names, owner, channel_of}
 use Rattle.machine.specs.State.{State, area}

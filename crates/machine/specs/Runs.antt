@@ -3,7 +3,8 @@ use Rattle.std.specs.Prelude.{List, [], ◌∷◌, map}
 use Rattle.vector.specs.declared.tables.Tables.{Tables}
 use Rattle.machine.specs.declared.event.Event.{Event}
 use Rattle.machine.specs.declared.event.Exchange.{Exchange}
-use Rattle.machine.specs.Answers.{Reply, reply_of}
+use Rattle.machine.specs.declared.answer.Reply.{Reply}
+use Rattle.machine.specs.Answers.{reply_of}
 use Rattle.machine.specs.State.{State}
 use Rattle.machine.specs.Step.{step}
 

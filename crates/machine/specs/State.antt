@@ -4,7 +4,8 @@ use Rattle.machine.specs.declared.partition.Partition.{Partition}
 use Rattle.machine.specs.declared.clock.Clock.{Clock}
 use Rattle.machine.specs.declared.log.Entry.{Entry}
 use Rattle.machine.specs.declared.answer.Refusal.{Refusal}
-use Rattle.machine.specs.Answers.{Reply, reply, refusal_code}
+use Rattle.machine.specs.declared.answer.Reply.{Reply}
+use Rattle.machine.specs.Answers.{reply, refusal_code}
 use Rattle.machine.specs.Partitions.{nobody}
 use Rattle.machine.specs.Letters.{Letter}
 
