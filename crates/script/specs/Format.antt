@@ -1,5 +1,5 @@
 -- The script format: a 2-byte vector length, the vector, then event records to the end; numbers have their low byte first.
-use Rattle.std.specs.Prelude.{ℕ, zero, suc, ◌+◌, ◌*◌, Bool, cond, ◌&&◌, List, [], ◌∷◌, map, length, take, drop, Some, None, Option, ◌==◌, nat_le, slice_index}
+use Rattle.std.specs.Prelude.{ℕ, zero, suc, ◌+◌, ◌*◌, Bool, cond, ◌&&◌, List, [], ◌∷◌, map, length, take, drop, Some, None, Option, Ok, ◌==◌, nat_le, slice_index}
 use Rattle.std.specs.Option.{option_map}
 use Rattle.machine.specs.declared.answer.Answer.TheVariants.{Done}
 use Rattle.machine.specs.declared.event.Exchange.{Exchange}
@@ -107,7 +107,7 @@ records_of bs = beyond 2 bs
 
 -- an event that is not answered yet
 abbrev pub unanswered : Event → Exchange
-unanswered e = record { event = e; answer = Done }
+unanswered e = record { event = e; answer = Ok Done }
 
 -- the history that event records say
 abbrev pub history_of : List ℕ → Option (List Exchange)

@@ -1,7 +1,8 @@
 -- How an answer is written.
 use Rattle.std.specs.Prelude.{ℕ, List, ◌++◌, codes, decimal}
 use Rattle.std.specs.Fmt.{signed_decimal}
-use Rattle.machine.specs.Answers.{Reply, reply_of}
+use Rattle.machine.specs.declared.answer.Reply.{Reply}
+use Rattle.machine.specs.Answers.{reply_of}
 use Rattle.script.specs.declared.line.Line.{Line}
 
 -- the code, a and b in decimal digits, with a space between them

@@ -1,6 +1,6 @@
 // The fields of a record's body, for each kind. A body comes here only with its kind's length.
-ghost use Rattle.std.specs.Prelude.{◌≡◌, ◌+◌, ◌≤◌, length};
-ghost use Rattle.script.specs.Format.{args_of, body_length, byte_at, event_of, long_at};
+ghost use Rattle.std.specs.Prelude.{◌≡◌, length};
+ghost use Rattle.script.specs.Format.{args_of, body_length, byte_at, event_of};
 
 use crate::kind::EventKind;
 use machine::event::{Args, Event};
@@ -17,25 +17,20 @@ fn tick(body: &[u8]) -> Event
     }
 }
 
-/// The 4-byte number at a place.
-fn long_at(bytes: &[u8], at: usize) -> u32
-    requires { at + 4 ≤ length bytes.now }
-    ensures { result ≡ long_at bytes.now at }
-{
-    u32::from_le_bytes([bytes[at], bytes[at + 1], bytes[at + 2], bytes[at + 3]])
-}
-
 /// The five arguments of a call, one after another.
 fn read_args(bytes: &[u8]) -> Args
     requires { length bytes.now ≡ 20 }
     ensures { result ≡ args_of bytes.now }
 {
+    let ([a, b, c, d, e], _) = bytes.as_chunks::<4>() else {
+        unreachable()
+    };
     [
-        long_at(bytes, 0),
-        long_at(bytes, 4),
-        long_at(bytes, 8),
-        long_at(bytes, 12),
-        long_at(bytes, 16),
+        u32::from_le_bytes(*a),
+        u32::from_le_bytes(*b),
+        u32::from_le_bytes(*c),
+        u32::from_le_bytes(*d),
+        u32::from_le_bytes(*e),
     ]
 }
 

@@ -4,7 +4,7 @@ ghost use Rattle.script.specs.declared.error.ScriptError.TheVariants.{OutOfMemor
 
 use std::alloc::AllocFailed;
 
-#[derive(Clone, Copy, Debug)]
+#[derive(Clone, Copy, Debug, PartialEq, Eq)]
 pub enum ScriptError {
     Malformed,
     OutOfMemory,

@@ -2,7 +2,7 @@
 ghost use Rattle.script.specs.Reading.{Lists};
 
 use crate::error::ScriptError;
-use crate::record::split;
+use crate::record::next_event;
 use machine::answer::Answer;
 use machine::event::Exchange;
 use std::alloc::Global;
@@ -14,12 +14,10 @@ pub(crate) fn read_history(heap: Global, records: &[u8]) -> Result<Vec<Exchange>
     let mut history = Vec::new(heap);
     let mut rest = records;
     while !rest.is_empty() {
-        let Some(cut) = split(rest) else {
-            return Err(ScriptError::Malformed);
-        };
+        let cut = next_event(rest).ok_or(ScriptError::Malformed)?;
         history.push(Exchange {
             event: cut.event,
-            answer: Answer::Done,
+            answer: Ok(Answer::Done),
         })?;
         rest = cut.rest;
     }

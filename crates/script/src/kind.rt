@@ -1,8 +1,12 @@
 // The kinds of event records: the one place of their numbers and their body lengths.
 ghost use Rattle.std.specs.Prelude.{◌≡◌};
+ghost use Rattle.std.specs.Option.{ok_or};
 ghost use Rattle.script.specs.Format.{kind_of, body_length};
+ghost use Rattle.script.specs.declared.error.ScriptError.TheVariants.{Malformed};
 
-#[derive(Clone, Copy)]
+use crate::error::ScriptError;
+
+#[derive(Clone, Copy, Debug, PartialEq, Eq)]
 pub enum EventKind {
     Tick,
     Call,
@@ -13,22 +17,26 @@ pub enum EventKind {
     SystemFault,
 }
 
-impl EventKind {
-    pub(crate) fn from_number(number: u16) -> Option<EventKind>
-        ensures { result ≡ kind_of number }
-    {
+impl TryFrom<u16> for EventKind {
+    type Error = ScriptError;
+
+    ghost try_from_gives = { λ number r. r ≡ ok_or (kind_of number) Malformed };
+
+    fn try_from(number: u16) -> Result<EventKind, ScriptError> {
         match number {
-            32 => Some(EventKind::Tick),
-            33 => Some(EventKind::Call),
-            34 => Some(EventKind::Load),
-            35 => Some(EventKind::Store),
-            36 => Some(EventKind::Fault),
-            37 => Some(EventKind::Line),
-            38 => Some(EventKind::SystemFault),
-            _ => None,
+            32 => Ok(EventKind::Tick),
+            33 => Ok(EventKind::Call),
+            34 => Ok(EventKind::Load),
+            35 => Ok(EventKind::Store),
+            36 => Ok(EventKind::Fault),
+            37 => Ok(EventKind::Line),
+            38 => Ok(EventKind::SystemFault),
+            _ => Err(ScriptError::Malformed),
         }
     }
+}
 
+impl EventKind {
     pub(crate) fn body_length(self) -> usize
         ensures { result ≡ body_length self }
     {

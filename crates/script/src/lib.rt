@@ -15,6 +15,7 @@ pub(crate) mod history;
 pub(crate) mod kind;
 pub mod line;
 pub(crate) mod opening;
+pub(crate) mod part;
 pub(crate) mod record;
 #[cfg(test)]
 mod tests;
@@ -32,12 +33,10 @@ pub struct Script<'a> {
 pub fn read_script<'a>(heap: Global, bytes: &'a [u8]) -> Result<Script<'a>, ScriptError>
     ensures { Reads bytes.now result }
 {
-    let Some(parts) = divide(bytes) else {
-        return Err(ScriptError::Malformed);
-    };
-    let history = read_history(heap, parts.records)?;
+    let opening = divide(bytes).ok_or(ScriptError::Malformed)?;
+    let history = read_history(heap, opening.rest)?;
     Ok(Script {
-        vector: parts.vector,
+        vector: opening.part,
         history,
     })
 }

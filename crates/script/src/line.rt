@@ -1,20 +1,19 @@
-// The text of an answer.
+// The text of an outcome.
 ghost use Rattle.std.specs.Prelude.{Some};
 ghost use Rattle.script.specs.Lines.{text};
 
-use machine::answer::Answer;
+use machine::answer::{Outcome, Reply};
 use std::fmt;
 
-/// An answer as a line shows it: its code and its two values.
+/// An outcome as a line shows it: its code and its two values.
 #[derive(Clone, Copy)]
-pub struct Line(pub Answer);
+pub struct Line(pub Outcome);
 
 impl fmt::Display for Line {
     ghost output = { λ x. Some (text x) };
 
     fn fmt<W: fmt::Write>(&self, f: &mut fmt::Formatter<W>) -> fmt::Result {
-        let code = self.0.code();
-        let (a, b) = self.0.values();
+        let Reply { code, a, b } = Reply::from(self.0);
         write!(f, "{code} {a} {b}")
     }
 }

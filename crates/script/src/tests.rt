@@ -54,9 +54,9 @@ fn refuses_malformed(rt: HostRuntime) {
 
 #[test]
 fn shows_answers(rt: HostRuntime) -> Result<(), Fail> {
-    let refused = Line(Answer::Refused(Refusal::NotOnProcessor)).to_string(rt.alloc())?;
+    let refused = Line(Err(Refusal::NotOnProcessor)).to_string(rt.alloc())?;
     assert_eq!(rt; refused.as_str(), "-9 0 0");
-    let time = Line(Answer::Time(1_000)).to_string(rt.alloc())?;
+    let time = Line(Ok(Answer::Time(1_000))).to_string(rt.alloc())?;
     assert_eq!(rt; time.as_str(), "0 1000 0");
     Ok(())
 }
