@@ -1,9 +1,6 @@
 -- The numbers of each answer: a code and the values a and b, 0 where the answer names none.
 use Rattle.std.specs.Prelude.{ℕ, ◌+◌, ◌*◌, ℤ, pos, negsuc, Result, Ok, Err}
-use Rattle.vector.specs.declared.tables.Action.{Action}
-use Rattle.vector.specs.declared.tables.Action.TheVariants.{Ignore, Signal, Suspend, Halt, WarmReset, ColdReset}
-use Rattle.vector.specs.declared.record.Scope.{Scope}
-use Rattle.vector.specs.declared.record.Scope.TheVariants.{Partition, System}
+use Rattle.vector.specs.Encoding.{scope_number, action_number}
 use Rattle.machine.specs.declared.partition.Status.{Status}
 use Rattle.machine.specs.declared.partition.Status.TheVariants.{Halted, Ready, Idle, Suspended}
 use Rattle.machine.specs.declared.log.Entry.{Entry}
@@ -26,26 +23,13 @@ refusal_code OpNotAllowed = negsuc 7
 refusal_code NotOnProcessor = negsuc 8
 refusal_code SystemHalted = negsuc 9
 
-abbrev pub action_number : Action → ℕ
-action_number Ignore = 0
-action_number Signal = 1
-action_number Suspend = 2
-action_number Halt = 3
-action_number WarmReset = 4
-action_number ColdReset = 5
-
 abbrev pub status_number : Status → ℕ
 status_number Halted = 4
 status_number Ready = 1
 status_number Idle = 2
 status_number Suspended = 3
 
--- a partition's number, or 255 for the system
-abbrev pub scope_number : Scope → ℕ
-scope_number (Partition q) = q
-scope_number System = 255
-
--- a log entry in one word: scope, event and action, a byte each
+-- a log entry in one word: scope, event and action, a byte each, by the numbers that a vector has for them
 abbrev pub packed : Entry → ℕ
 packed e = scope_number e.scope + 256 * e.event + 65536 * action_number e.action
 

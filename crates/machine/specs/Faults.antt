@@ -10,7 +10,8 @@ use Rattle.vector.specs.declared.record.Scope.TheVariants.{Partition, System}
 use Rattle.vector.specs.Blank.{response0}
 use Rattle.machine.specs.declared.log.Entry.{Entry}
 use Rattle.machine.specs.Partitions.{halted, suspended, fresh, signalled}
-use Rattle.machine.specs.Answers.{reply, action_number}
+use Rattle.vector.specs.Encoding.{action_number}
+use Rattle.machine.specs.Answers.{reply}
 use Rattle.machine.specs.Questions.{response}
 use Rattle.machine.specs.Time.{clock_of}
 use Rattle.machine.specs.State.{Core, Effect, keeps, clears, clears_all, Out, replied, with_clock, with_parts, with_chans, with_log, with_halted, modify}

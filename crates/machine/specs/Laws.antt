@@ -1,6 +1,6 @@
 -- Laws of the machine, in every state and over all runs.
 use Rattle.std.specs.Prelude.{◌≡◌, ℕ, zero, suc, ◌+◌, ◌-◌, ◌≤◌, Bool, true, false, ◌&&◌, ◌||◌, List, [], ◌∷◌, length, get_or, negsuc, Some, ◌==◌, slice_index_or}
-use Rattle.vector.specs.Blank.{channel0}
+use Rattle.vector.specs.Laws.{channel_at}
 use Rattle.vector.specs.declared.tables.Tables.{Tables}
 use Rattle.vector.specs.Tables.{Plans}
 use Rattle.vector.specs.declared.tables.ChannelKind.{ChannelKind}
@@ -37,7 +37,7 @@ room_of Sampling d = 1
 room_of Queuing d = d
 
 abbrev pub room : Tables → ℕ → ℕ
-room k c = room_of (get_or k.channels.rows c channel0).kind (get_or k.channels.rows c channel0).depth
+room k c = room_of (channel_at c k).kind (channel_at c k).depth
 
 -- each message has 1 to n bytes
 abbrev pub Sized : ℕ → List Letter → Type 0
@@ -46,7 +46,7 @@ Sized n (m ∷ ms) = ((1 ≤ length m.bytes) × (length m.bytes ≤ n)) × Sized
 
 -- the longest message that a channel takes
 abbrev pub longest : Tables → ℕ → ℕ
-longest k c = (get_or k.channels.rows c channel0).longest
+longest k c = (channel_at c k).longest
 
 -- each entry is from the time t or later, and from a time up to t
 abbrev pub Since : ℕ → List Entry → Type 0

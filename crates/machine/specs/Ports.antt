@@ -1,6 +1,7 @@
 -- The calls on ports and channels: 9 to 15.
-use Rattle.std.specs.Prelude.{ℕ, zero, suc, ◌+◌, Bool, true, false, cond, ◌&&◌, List, [], ◌∷◌, ◌++◌, length, take, drop, pos, Some, None, Option, ◌==◌, nat_le, nat_lt, slice_index_or}
+use Rattle.std.specs.Prelude.{ℕ, zero, suc, ◌+◌, Bool, true, cond, ◌&&◌, List, [], ◌∷◌, ◌++◌, length, take, drop, pos, Some, None, Option, ◌==◌, nat_le, nat_lt, slice_index_or}
 use Rattle.vector.specs.Names.{padded}
+use Rattle.vector.specs.Fields.{direction_number}
 use Rattle.vector.specs.declared.tables.Tables.{Tables}
 use Rattle.vector.specs.declared.tables.ChannelKind.{ChannelKind}
 use Rattle.vector.specs.declared.tables.ChannelKind.TheVariants.{Sampling, Queuing}
@@ -38,13 +39,9 @@ nameable a g = (ranged a (arg g 0) (arg g 1) && nat_le (arg g 1) 16) && nat_lt (
 abbrev pub sought : Tables → List ℕ → ℕ → ChannelKind → List ℕ → Option ℕ
 sought k a q t g = cond (nameable a g) (named k q t (padded (part a (arg g 0) (arg g 1))) k.ports.count) None
 
-abbrev pub direction_number : Bool → ℕ
-direction_number true = 0
-direction_number false = 1
-
 -- do the longest message and the direction agree with the vector's
 abbrev pub agrees : Tables → ℕ → List ℕ → Bool
-agrees k i g = arg g 2 == (channel k i).longest && arg g 3 == direction_number (is_source (port k i).direction)
+agrees k i g = arg g 2 == (channel k i).longest && arg g 3 == direction_number (port k i).direction
 
 abbrev pub deepens : Tables → ℕ → ChannelKind → List ℕ → Bool
 deepens k i Sampling g = true

@@ -15,7 +15,9 @@ use Rattle.vector.specs.declared.tables.Direction.TheVariants.{Source, Destinati
 use Rattle.vector.specs.declared.tables.Port.{Port}
 use Rattle.vector.specs.declared.tables.Name.{Name}
 use Rattle.vector.specs.Names.{same_name}
-use Rattle.vector.specs.Blank.{row0, plan0, response0, channel0, port0}
+use Rattle.vector.specs.Blank.{row0, response0}
+use Rattle.vector.specs.Laws.{plan_at}
+use Rattle.vector.specs.Fair.{port_at, channel_at}
 
 -- has the vector a partition of this number
 abbrev pub exists : Tables → ℕ → Bool
@@ -25,7 +27,7 @@ abbrev pub row : Tables → ℕ → PartitionRow
 row k q = slice_index_or k.partitions.rows q row0
 
 abbrev pub plan : Tables → ℕ → Plan
-plan k i = slice_index_or k.plans.rows i plan0
+plan k i = plan_at i k
 
 abbrev pub slots_of : Plan → List Slot
 slots_of p = take p.slots.count p.slots.rows
@@ -71,14 +73,14 @@ abbrev pub owner : Tables → ℕ → Option ℕ
 owner k l = slice_index_or k.lines l None
 
 abbrev pub port : Tables → ℕ → Port
-port k i = slice_index_or k.ports.rows i port0
+port k i = port_at k i
 
 -- the channel of a port
 abbrev pub channel_of : Tables → ℕ → ℕ
 channel_of k i = (port k i).channel
 
 abbrev pub channel : Tables → ℕ → Channel
-channel k i = slice_index_or k.channels.rows (channel_of k i) channel0
+channel k i = channel_at k i
 
 abbrev pub is_source : Direction → Bool
 is_source Source = true

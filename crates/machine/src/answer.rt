@@ -1,6 +1,7 @@
 // What an event is answered, and the numbers of each answer.
 ghost use Rattle.std.specs.Prelude.{◌≡◌, ℤ, pos};
-ghost use Rattle.machine.specs.Answers.{refusal_code, action_number, status_number, reply, reply_of, answer_reply};
+ghost use Rattle.vector.specs.Encoding.{action_number};
+ghost use Rattle.machine.specs.Answers.{refusal_code, status_number, reply, reply_of, answer_reply};
 
 use crate::clock::Time;
 use crate::log::Entry;

@@ -1,6 +1,7 @@
 // An entry of the health monitor's log.
 ghost use Rattle.std.specs.Prelude.{◌≡◌};
-ghost use Rattle.machine.specs.Answers.{packed, scope_number};
+ghost use Rattle.vector.specs.Encoding.{scope_number};
+ghost use Rattle.machine.specs.Answers.{packed};
 
 use crate::answer::action_number;
 use crate::clock::Time;
