@@ -7,7 +7,7 @@ use crate::part::cut_part;
 use machine::event::Event;
 
 /// The event of the first record, and the bytes after that record.
-#[derive(Clone, Copy)]
+#[derive(Clone, Copy, Debug, PartialEq, Eq)]
 pub struct Cut<'a> {
     pub event: Event,
     pub rest: &'a [u8],
