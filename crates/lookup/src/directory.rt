@@ -1,7 +1,7 @@
 // The ports of the tables: whose they are, and which port a name finds.
 ghost use Rattle.std.specs.Prelude.{◌≡◌, ◌<◌, ◌≤◌, ◌&&◌, IfSome, if◌then◌else◌, Some};
 ghost use Rattle.vector.specs.Names.{same_name};
-ghost use Rattle.machine.specs.Questions.{same_kind, owns, named};
+ghost use Rattle.machine.specs.Questions.{owns, named};
 ghost use Rattle.machine.specs.Questions.{port as port_at};
 ghost use Rattle.lookup.specs.Bounds.{Ported, Joined};
 
@@ -13,17 +13,6 @@ pub struct Directory<'a> {
     pub tables: &'a Tables,
     ghost ported: { Ported tables.now.ports },
     ghost joined: { Joined tables.now.ports },
-}
-
-pub(crate) fn is_kind(kind: ChannelKind, other: ChannelKind) -> bool
-    ensures { result ≡ same_kind kind other }
-{
-    match (kind, other) {
-        (ChannelKind::Sampling, ChannelKind::Sampling)
-        | (ChannelKind::Queuing, ChannelKind::Queuing) => true,
-        (ChannelKind::Sampling, ChannelKind::Queuing)
-        | (ChannelKind::Queuing, ChannelKind::Sampling) => false,
-    }
 }
 
 impl<'a> Directory<'a> {
@@ -44,7 +33,7 @@ impl<'a> Directory<'a> {
         }
         let port = &self.tables.ports.rows[i as usize];
         let channel = &self.tables.channels.rows[usize::from(port.channel)];
-        port.partition == q && is_kind(channel.kind, kind)
+        port.partition == q && channel.kind == kind
     }
 
     /// Whether i is a port of q of this type and name.
@@ -52,7 +41,7 @@ impl<'a> Directory<'a> {
         requires there { i < self.now.tables.now.ports.count }
         ensures { result ≡ (owns self.now.tables.now q kind i && same_name (port_at self.now.tables.now i).name name.now) }
     {
-        self.is_owner(q, kind, i as u32) && self.tables.ports.rows[i].name.is(name)
+        self.is_owner(q, kind, i as u32) && self.tables.ports.rows[i].name == *name
     }
 
     /// The number of q's port of this type and name.

@@ -4,9 +4,9 @@ ghost use Rattle.machine.specs.Partitions.{bit};
 ghost use Rattle.machine.specs.Questions.{exists};
 ghost use Rattle.machine.specs.Circle.{Circle, feeds, joined, with_pair, with_port, with_raiser, with_links, grown, circle_of};
 
-use crate::directory::{Directory, is_kind};
-use crate::tables::{is_member, is_source, is_system, is_there, mask_of};
-use vector::tables::ChannelKind;
+use crate::directory::Directory;
+use crate::tables::{is_member, is_system, is_there, mask_of};
+use vector::tables::{ChannelKind, Direction};
 
 /// The mask with the partition in it, where the test holds.
 fn join(test: bool, q: u8, mask: u8) -> u8
@@ -24,9 +24,9 @@ impl<'a> Directory<'a> {
     {
         let source = &self.tables.ports.rows[i];
         let destination = &self.tables.ports.rows[j];
-        is_source(source.direction)
+        source.direction == Direction::Source
             && destination.channel == source.channel
-            && !is_source(destination.direction)
+            && destination.direction == Direction::Destination
     }
 
     /// The owner of a source port where the reader is in, and the reader of a queue where its writer is in.
@@ -42,7 +42,7 @@ impl<'a> Directory<'a> {
         let feeds = self.is_feeding(i, j);
         let more = join(feeds && is_member(mask, reader), writer, mask);
         join(
-            feeds && is_kind(kind, ChannelKind::Queuing) && is_member(more, writer),
+            feeds && kind == ChannelKind::Queuing && is_member(more, writer),
             reader,
             more,
         )

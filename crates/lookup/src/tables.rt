@@ -22,7 +22,7 @@ pub fn is_system(tables: &Tables, q: u8) -> bool
         .partitions
         .rows
         .get(usize::from(q))
-        .is_some_and(|row| matches!(row.class, Class::System))
+        .is_some_and(|row| row.class == Class::System)
 }
 
 /// Whether q may manage the partition t: any, if it is a system partition, else itself.
@@ -61,7 +61,7 @@ pub fn owner_of(tables: &Tables, line: u8) -> Option<u8>
 pub fn is_source(direction: Direction) -> bool
     ensures { result ≡ is_source direction }
 {
-    matches!(direction, Direction::Source)
+    direction == Direction::Source
 }
 
 /// Whether port i is a destination of the channel c.
