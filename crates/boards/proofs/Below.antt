@@ -1,6 +1,5 @@
 -- Tests of the numbers below n, and of those before another.
-use Rattle.std.proofs.Common.{◌≡◌, ℕ, ◌<◌, Bool, true, get_or, refl, sym, ap, ◌∙◌, ⊎_elim, arith}
-use Rattle.std.proofs.lemmas.Bool.{cases_order}
+use Rattle.std.proofs.Common.{◌≡◌, ℕ, ◌<◌, Bool, true, get_or, refl, sym, ap, ◌∙◌, arith}
 use Rattle.std.proofs.lemmas.Iterator.{YieldsList-from_range}
 use Rattle.std.proofs.lemmas.Iterator.Search.{all_from_yields_List}
 use Rattle.std.proofs.lemmas.List.FromFn.{length-range_with_len, get_or-range_with_len}
@@ -41,8 +40,4 @@ all-below test n h =
 
 -- two numbers, neither before the other, are one
 pub neither_before : (x y : ℕ) → (y < x → ⊥) → (x < y → ⊥) → x ≡ y
-neither_before x y f g =
-    ⊎_elim
-    (λ (z : x ≡ y). z)
-    (λ z. ⊎_elim (λ (h : x < y). absurd (g h)) (λ (h : y < x). absurd (f h)) z)
-    (cases_order x y)
+neither_before x y f g = omega arith

@@ -1,34 +1,34 @@
 //! Tests of a page table: each used page within the memory, none met twice.
-ghost use Rattle.std.specs.Prelude.{◌≡◌, ◌<◌};
+ghost use Rattle.std.specs.Prelude.{◌≡◌};
 ghost use Rattle.std.specs.List.{list_all};
 ghost use Rattle.boards.specs.Below.{all_below};
 ghost use Rattle.boards.specs.Pages.{entry, used, differs, good_entry, fits, sound_pages};
 
 use crate::pages::Pages;
 
+// Page e % 16 of area e / 16.
 fn page_of(table: &[Pages; 8], e: usize) -> u16
-    requires { e < 128 }
     ensures { result ≡ entry table.now e }
 {
-    table[e / 16].numbers[e % 16]
+    table.get(e / 16).map_or(0, |pages| pages.numbers[e % 16])
 }
 
+// Does the area reach into that page?
 fn is_used(table: &[Pages; 8], e: usize) -> bool
-    requires { e < 128 }
     ensures { result ≡ used table.now e }
 {
-    64 * (e % 16) < table[e / 16].size
+    table
+        .get(e / 16)
+        .is_some_and(|pages| 64 * (e % 16) < pages.size)
 }
 
 fn is_new(table: &[Pages; 8], e: usize) -> bool
-    requires { e < 128 }
     ensures { result ≡ all_below (differs table.now e) e }
 {
     (0..e).all(|d| !is_used(table, d) || page_of(table, e) != page_of(table, d))
 }
 
 fn is_good(table: &[Pages; 8], n: usize, e: usize) -> bool
-    requires { e < 128 }
     ensures { result ≡ good_entry table.now n e }
 {
     !is_used(table, e) || (64 * usize::from(page_of(table, e)) + 64 <= n && is_new(table, e))
