@@ -1,8 +1,8 @@
 -- Sound fences lay the areas apart in the memory.
-use Rattle.std.proofs.Common.{◌≡◌, ℕ, ◌+◌, ◌-◌, ◌<◌, ◌≤◌, min, true, List, length, get_or, drop, replicate, sym, refl, ap, ◌∙◌, ⊎_elim, arith, length-drop, length-take}
+use Rattle.std.proofs.Common.{◌≡◌, ℕ, ◌+◌, ◌<◌, ◌≤◌, true, List, length, get_or, drop, replicate, sym, refl, ap, ◌∙◌, arith, length-drop, length-take}
 use lib.ListN.{length-map, get_or-map}
 use Rattle.std.proofs.lemmas.List.{get_or-take, get_or-drop, get_or_past}
-use Rattle.std.proofs.lemmas.Bool.{cases_lt, and_parts}
+use Rattle.std.proofs.lemmas.Bool.{and_parts}
 use Rattle.std.proofs.lemmas.Bool.Decides.{nat_tests}
 use Rattle.board.specs.Areas.{area}
 use Rattle.boards.specs.declared.fence.Fence.{Fence}
@@ -29,10 +29,8 @@ module _ (fences : List Fence) (n : ℕ) (e : length fences ≡ 8) (s : sound_fe
   -- an area with a byte is one of the eight
   below : (i a : ℕ) → a < fence_size fences i → i < 8
   below i a l =
-      ⊎_elim
-      (λ (h : i < 8). h)
-      (λ (h : 8 ≤ i). let z = ap (λ (f : Fence). f.size) (get_or_past fences i nowhere (omega arith)) in absurd (omega arith))
-      (cases_lt i 8)
+      let past : 8 ≤ i → fence_size fences i ≡ 0 = λ h. ap (λ (f : Fence). f.size) (get_or_past fences i nowhere (omega arith)) in
+      grind arith
 
   good : (i : ℕ) → i < 8 → (within n (fence_of fences i) ≡ true) × (all_below (apart_at fences i) i ≡ true)
   good i h = and_parts (within n (fence_of fences i)) (all_below (apart_at fences i) i) (below_at (good_fence fences n) 8 i s h)
@@ -52,13 +50,8 @@ module _ (fences : List Fence) (n : ℕ) (e : length fences ≡ 8) (s : sound_fe
 
   part-size : (memory : List ℕ) → length memory ≡ n → (i : ℕ) → length (area (parts memory fences) i) ≡ fence_size fences i
   part-size memory m i =
-      let q : length (part memory (fence_of fences i)) ≡ min (fence_size fences i) (length memory - (fence_of fences i).base) = simp (length-take, length-drop) in
-      ap length (area-part memory fences i)
-      ∙ q
-      ∙ ⊎_elim
-      (λ (h : 0 < fence_size fences i). let w = fence_end i 0 h in omega arith)
-      (λ (h : fence_size fences i ≤ 0). omega arith)
-      (cases_lt 0 (fence_size fences i))
+      let ends : 0 < fence_size fences i → (fence_of fences i).base + fence_size fences i ≤ n = λ h. fence_end i 0 h in
+      ap length (area-part memory fences i) ∙ simp (length-take, length-drop) (grind arith)
 
   pub fences_laid : LayoutLaws n (λ memory. parts memory fences) (fence_size fences) (fence_place fences)
   fences_laid =

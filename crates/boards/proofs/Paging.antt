@@ -12,7 +12,7 @@ use Rattle.boards.specs.Places.{LayoutLaws}
 use Rattle.boards.specs.Pages.{no_pages, page, paged_size, paged_place, paged_byte, paged_area, paged, eight-paged, entry, used, differs, good_entry, fits, sound_pages}
 use Rattle.boards.proofs.Below.{below_at, neither_before}
 
--- eight empty areas are sound in any memory, with any table
+-- eight empty areas are sound in any memory
 pub empty-sound : (n : ℕ) → sound_pages (replicate 8 no_pages) n ≡ true
 unfolding all_below
 empty-sound n = refl
@@ -38,10 +38,9 @@ module _ (table : List Pages) (n : ℕ) (e : length table ≡ 8) (s : sound_page
   -- an area with a byte is one of the eight, and not too large
   pub fitting : (i a : ℕ) → a < paged_size table i → (i < 8) × (paged_size table i ≤ 1024)
   fitting i a l =
-      ⊎_elim
-      (λ (h : i < 8). (h, most i h))
-      (λ (h : 8 ≤ i). let z = ap (λ (p : Pages). p.size) (get_or_past table i no_pages (omega arith)) in absurd (omega arith))
-      (cases_lt i 8)
+      let past : 8 ≤ i → paged_size table i ≡ 0 = λ h. ap (λ (p : Pages). p.size) (get_or_past table i no_pages (omega arith)) in
+      let h : i < 8 = grind arith in
+      (h, most i h)
 
   -- the entry of a byte's page is used
   entry_of : (i a : ℕ) → a < paged_size table i →

@@ -1,7 +1,7 @@
 -- Areas that lie in one memory, no two bytes at one place: what a load and a store at a place are to the areas.
 use Rattle.std.proofs.Common.{◌≡◌, ℕ, ◌<◌, ◌≤◌, List, [], length, get_or, set, sym, ap, ◌∙◌, ⊎_elim, arith, length-set}
 use Rattle.std.proofs.lemmas.List.{ext_get_or, get_or-set_same, get_or-set_other, get_or_past}
-use Rattle.std.proofs.lemmas.Bool.{cases_eq, cases_lt, lt-ltb}
+use Rattle.std.proofs.lemmas.Bool.{cases_eq, lt-ltb}
 use Rattle.board.specs.Areas.{area}
 use Rattle.boards.specs.Places.{LayoutLaws, LiesAt}
 
@@ -10,13 +10,9 @@ module _ {n : ℕ} {view : List ℕ → List (List ℕ)} {size : ℕ → ℕ} {p
   -- an area that has a byte is there
   there : at < size i → i < length (view memory)
   there l =
-      ⊎_elim
-      (λ (k : i < length (view memory)). k)
-      (λ (k : length (view memory) ≤ i).
-      let z = ap length (get_or_past (view memory) i [] k) in
+      let past : length (view memory) ≤ i → length (area (view memory) i) ≡ 0 = λ k. ap length (get_or_past (view memory) i [] k) in
       let s = w.long memory e i in
-      absurd (omega arith))
-      (cases_lt i (length (view memory)))
+      grind arith
 
   long_after : (b k : ℕ) → length (area (view (set memory (place i at) b)) k) ≡ size k
   long_after b k = w.long (set memory (place i at) b) (length-set memory (place i at) b ∙ e) k
