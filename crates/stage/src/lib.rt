@@ -71,6 +71,8 @@ pub fn pages(sizes: &[usize; 8]) -> [Pages; 8]
     array::from_fn(|i| area_pages(i, sizes[i]))
 }
 
+// The two boards below stay two functions: a generic one would need a trait for one line each, and be no plainer.
+
 /// The fenced board: the areas lie one after another.
 pub fn fenced(tables: &Tables) -> Fenced<ROOM>
     requires few { tables.now.partitions.count ≤ 8 }
