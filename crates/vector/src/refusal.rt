@@ -5,6 +5,7 @@ ghost use Rattle.vector.specs.Reasons.{reason};
 use crate::fault::{FieldFault, FrameFault, Layer, Refusal, RelationFault};
 
 impl Refusal {
+    // C reads refusals by these numbers.
     pub fn number(&self) -> u32
         ensures { result ≡ (reason self.now).number }
     {

@@ -1,6 +1,7 @@
 // A table of rows of one type, in memory of a fixed size.
 ghost use Rattle.std.specs.Prelude.{◌≡◌, ◌+◌, ◌-◌, ◌<◌, ◌≤◌, take, replicate, slice_index_or, slice_set};
 
+// Memory is fixed, so a table is a count beside an array, and no Vec.
 /// A table of at most `N` rows; the first `count` of `rows` are there.
 #[derive(Clone, Copy, Debug, PartialEq, Eq)]
 pub struct Table<T, const N: usize> {

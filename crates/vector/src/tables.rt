@@ -8,6 +8,7 @@ pub enum Class {
     System,
 }
 
+// Memory is fixed, so a name lies in its row, and is no String.
 /// A name of 1 to 16 bytes; the bytes past its length are 0. Names that differ only in zeros at their ends differ in
 /// length.
 #[derive(Clone, Copy, Debug, PartialEq, Eq)]
