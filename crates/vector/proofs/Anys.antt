@@ -1,33 +1,17 @@
 -- Tests over the rows of a table and over a list, where one more comes or one is replaced.
-use Rattle.std.proofs.Common.{◌≡◌, ℕ, zero, suc, ◌+◌, ◌<◌, Bool, true, false, ◌||◌, eqb, List, [], ◌∷◌, ◌++◌, length, get_or, take, drop, set, replicate, sym, refl, ap, ◌∙◌, inl, inr, arith}
+use Rattle.std.proofs.Common.{◌≡◌, ℕ, zero, suc, ◌+◌, ◌<◌, Bool, true, ◌||◌, eqb, List, [], ◌∷◌, length, get_or, take, drop, set, replicate, sym, refl, ap, ◌∙◌, inl, inr, arith}
 use Rattle.std.specs.Str.{bytes_eq}
 use Rattle.std.proofs.lemmas.Slice.Eq.{bytes_eq-Decides}
 use Rattle.std.proofs.lemmas.List.{take_more_set, take-append-le, take_all}
+use Rattle.std.proofs.Math.Bool.{or-false, or_comm}
+use Rattle.std.proofs.lemmas.List.Folds.{list_any-append}
 use Rattle.std.proofs.lemmas.Bool.{and_parts, eqb-true, cases_Bool, both_ways}
 use Rattle.vector.specs.Names.{any, padded, same_name}
 use Rattle.vector.proofs.FitPartitions.{same-name}
 
-pub or_none : (a : Bool) → (a || false) ≡ a
-or_none true = refl
-or_none false = refl
-
-pub or_comm : (a b : Bool) → (a || b) ≡ (b || a)
-or_comm true true = refl
-or_comm true false = refl
-or_comm false true = refl
-or_comm false false = refl
-
-pub or_assoc : (a b c : Bool) → ((a || b) || c) ≡ (a || (b || c))
-or_assoc true b c = refl
-or_assoc false b c = refl
-
 module _ {A : Type 0} (test : A → Bool) where
-  any_snoc : (xs : List A) (v : A) → any test (xs ++ v ∷ []) ≡ (any test xs || test v)
-  any_snoc [] v = or_none (test v)
-  any_snoc (x ∷ xs) v = ap (λ b. test x || b) (any_snoc xs v) ∙ sym (or_assoc (test x) (any test xs) (test v))
-
   pub any_more : (xs : List A) (n : ℕ) (v : A) → n < length xs → any test (take (n + 1) (set xs n v)) ≡ (test v || any test (take n xs))
-  any_more xs n v h = ap (any test) (take_more_set xs n v h) ∙ (any_snoc (take n xs) v ∙ or_comm (any test (take n xs)) (test v))
+  any_more xs n v h = ap (any test) (take_more_set xs n v h) ∙ (list_any-append test (take n xs) (v ∷ []) ∙ (ap (λ b. any test (take n xs) || b) (or-false (test v)) ∙ or_comm (any test (take n xs)) (test v)))
 
   pub any-set : (xs : List A) (n p : ℕ) (v d : A) → test v ≡ test (get_or xs p d) → any test (take n (set xs p v)) ≡ any test (take n xs)
   any-set [] n p v d e = refl
@@ -35,10 +19,6 @@ module _ {A : Type 0} (test : A → Bool) where
   any-set (x ∷ xs) zero (suc p) v d e = refl
   any-set (x ∷ xs) (suc n) zero v d e = ap (λ b. b || any test (take n xs)) e
   any-set (x ∷ xs) (suc n) (suc p) v d e = ap (λ b. test x || b) (any-set xs n p v d e)
-
-  pub any-++ : (xs ys : List A) → any test (xs ++ ys) ≡ (any test xs || any test ys)
-  any-++ [] ys = refl
-  any-++ (x ∷ xs) ys = ap (λ b. test x || b) (any-++ xs ys) ∙ sym (or_assoc (test x) (any test xs) (any test ys))
 
 -- the bytes of a name, out of its row
 pub unpadded : (n : List ℕ) → take (length n) (padded n).bytes ≡ n

@@ -43,7 +43,7 @@ fit-partition n ps row f h new none z =
     let lt : ps.count < length ps.rows = omega (arith, f.size) in
     let bare : (i m : ℕ) → get_or row.links i None ≡ Some m → ⊥ =
     λ i m. subst (λ (l : List (Option ℕ)). get_or l i None ≡ Some m → ⊥) (sym none)
-    (all_alike (λ (o : Option ℕ). o ≡ Some m → ⊥) 8 i None None (λ e. let z : ◌≡◌ {A = ℕ} 0 1 = cc in omega arith) (λ e. let z : ◌≡◌ {A = ℕ} 0 1 = cc in omega arith)) in
+    (all_alike (λ (o : Option ℕ). o ≡ Some m → ⊥) 8 i None None (λ e. cc) (λ e. cc)) in
     record {
       size = length-set _ _ _ ∙ f.size;
       differ = pairs_more Apart ps.rows ps.count row row0 lt f.differ (λ i l e. both_ways _ (none_passes (has_name row.name) ps.rows ps.count i row0 new l (omega arith)) (same-name _ _ e));

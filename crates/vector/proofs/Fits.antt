@@ -236,11 +236,11 @@ fit-nothing = record {
     names = λ i j l h. absurd (omega arith);
     sources = λ c h. absurd (omega arith);
   };
-  lines = λ i. all_alike (Owner 0) 16 i None None (λ p e. absurd (let z : ◌≡◌ {A = ℕ} 0 1 = cc in omega arith)) (λ p e. absurd (let z : ◌≡◌ {A = ℕ} 0 1 = cc in omega arith));
+  lines = λ i. all_alike (Owner 0) 16 i None None (λ p e. absurd cc) (λ p e. absurd (cc));
 }
   where
     no_link : (p m : ℕ) → None ≡ Some m → (p < 0) × Mask 0 p m
-    no_link p m e = absurd (let z : ◌≡◌ {A = ℕ} 0 1 = cc in omega arith)
+    no_link p m e = absurd cc
 
 -- the same, with what it takes written out
 pub fit_on : (s : Sofar) (k : Kind) (x : Said) → Room s → in_turn k s ≡ true → Told k s x → Related s x → Fit s → Fit (after s x)

@@ -24,7 +24,7 @@ use Rattle.vector.proofs.Outs.{cond-fine}
 module _ {X : Type 0} (number : X → ℕ) (v : ℕ) (x : X) where
   pub last-choice : (b : Bool) (y : X) (r : Reason) → (b ≡ true → v ≡ number y) → cond b (fine y) (bad r) ≡ fine x → v ≡ number x
   last-choice true y r n e = let q : y ≡ x = cc in n refl ∙ ap number q
-  last-choice false y r n e = absurd (let z : ◌≡◌ {A = ℕ} 0 1 = cc in omega arith)
+  last-choice false y r n e = absurd cc
 
   pub choice : (b : Bool) (y : X) (o : Out X) → (b ≡ true → v ≡ number y) → (o ≡ fine x → v ≡ number x) → cond b (fine y) o ≡ fine x → v ≡ number x
   choice true y o n m e = let q : y ≡ x = cc in n refl ∙ ap number q

@@ -62,17 +62,17 @@ fewer p x w =
 
 shown-some : (o : Out (Option Step)) (y : Shown) → fine (Some y) ≡ shown o → (x : Step) × (o ≡ fine (Some x))
 shown-some (fine (Some x)) y e = (x, refl)
-shown-some (fine None) y e = absurd (let z : ◌≡◌ {A = ℕ} 0 1 = cc in omega arith)
-shown-some (bad r) y e = absurd (let z : ◌≡◌ {A = ℕ} 0 1 = cc in omega arith)
+shown-some (fine None) y e = absurd cc
+shown-some (bad r) y e = absurd cc
 
 shown-none : (o : Out (Option Step)) → fine None ≡ shown o → o ≡ fine None
-shown-none (fine (Some x)) e = absurd (let z : ◌≡◌ {A = ℕ} 0 1 = cc in omega arith)
+shown-none (fine (Some x)) e = absurd cc
 shown-none (fine None) e = refl
-shown-none (bad r) e = absurd (let z : ◌≡◌ {A = ℕ} 0 1 = cc in omega arith)
+shown-none (bad r) e = absurd cc
 
 shown-bad : (o : Out (Option Step)) (r : Reason) → bad r ≡ shown o → o ≡ bad r
-shown-bad (fine (Some x)) r e = absurd (let z : ◌≡◌ {A = ℕ} 0 1 = cc in omega arith)
-shown-bad (fine None) r e = absurd (let z : ◌≡◌ {A = ℕ} 0 1 = cc in omega arith)
+shown-bad (fine (Some x)) r e = absurd cc
+shown-bad (fine None) r e = absurd cc
 shown-bad (bad q) r e = let z : q ≡ r = cc in ap bad z
 
 -- what a point's next step does to its scan
@@ -81,7 +81,7 @@ module _ (at : ℕ) (s : Sofar) where
   next_cons b bs = cond-false (eqb (length (b ∷ bs)) 0) _ _ (ne_eqb (length (b ∷ bs)) 0 (λ e. omega arith))
 
   next-some : (bs : List ℕ) (x : Step) → next (record { at = at; sofar = s; rest = bs }) ≡ fine (Some x) → (scan_from x.point ≡ scan 0 at s bs) × (length x.point.rest < length bs)
-  next-some [] x e = absurd (let p = pass-fine (ending at s) (fine None) (Some x) e in let z : ◌≡◌ {A = ℕ} 0 1 = cc in omega arith)
+  next-some [] x e = absurd (let p = pass-fine (ending at s) (fine None) (Some x) e in cc)
   next-some (b ∷ bs) x e =
       let p : Point = record { at = at; sofar = s; rest = b ∷ bs } in
       let y = then-fine (step p) (λ x. fine (Some x)) (Some x) (sym (next_cons b bs) ∙ e) in
@@ -94,7 +94,7 @@ module _ (at : ℕ) (s : Sofar) where
       let p = pass-fine (ending at s) (fine None) None e in
       let c = cond-fine (settled s) (fine s) (owed at) p.0 p.1 in
       p.1 ∙ sym c.1
-  next-none (b ∷ bs) e = absurd (let y = then-fine (step (record { at = at; sofar = s; rest = b ∷ bs })) (λ x. fine (Some x)) None (sym (next_cons b bs) ∙ e) in let z : ◌≡◌ {A = ℕ} 0 1 = cc in omega arith)
+  next-none (b ∷ bs) e = absurd (let y = then-fine (step (record { at = at; sofar = s; rest = b ∷ bs })) (λ x. fine (Some x)) None (sym (next_cons b bs) ∙ e) in cc)
 
   scan-bad : (b : ℕ) (bs : List ℕ) (r : Reason) → step (record { at = at; sofar = s; rest = b ∷ bs }) ≡ bad r → scan 0 at s (b ∷ bs) ≡ bad r
   scan-bad b bs r e =
@@ -104,7 +104,7 @@ module _ (at : ℕ) (s : Sofar) where
           | inl z ↦ rw (f.1, z)
           | inr y ↦ elim (then-bad (joined at s y.0) (λ t. fine (step_over at f.0 y.0 t)) r y.2) [
             | inl z ↦ rw (f.1, y.1, z)
-            | inr t ↦ absurd (let e : ◌≡◌ {A = Out Step} (fine (step_over at f.0 y.0 t.0)) (bad r) = t.2 in let z : ◌≡◌ {A = ℕ} 0 1 = cc in omega arith)
+            | inr t ↦ absurd (cc (t.2))
           ]
         ]
       ]
@@ -114,7 +114,7 @@ module _ (at : ℕ) (s : Sofar) where
   next-bad (b ∷ bs) r e =
       elim (then-bad (step (record { at = at; sofar = s; rest = b ∷ bs })) (λ x. fine (Some x)) r (sym (next_cons b bs) ∙ e)) [
         | inl z ↦ scan-bad b bs r z
-        | inr x ↦ absurd (let e : ◌≡◌ {A = Out (Option Step)} (fine (Some x.0)) (bad r) = x.2 in let z : ◌≡◌ {A = ℕ} 0 1 = cc in omega arith)
+        | inr x ↦ absurd (cc (x.2))
       ]
 
 -- the reader's answers, and where it stands after them

@@ -1,6 +1,7 @@
 -- The tables as a configuration has them: what the reader asks of its tables has the answer that the lists give.
 use Rattle.std.proofs.Common.{◌≡◌, ℕ, ◌+◌, ◌-◌, ◌<◌, Bool, true, false, ◌&&◌, ◌||◌, eqb, List, [], ◌∷◌, ◌++◌, length, get_or, take, set, replicate, is_some, Some, None, Option, sym, refl, ap, ◌∙◌, subst, ap₂, arith, get_or-set_same}
 use Rattle.std.specs.Str.{bytes_eq}
+use Rattle.std.proofs.Math.Bool.{or_assoc}
 use Rattle.std.proofs.lemmas.List.{length-set}
 use Rattle.std.proofs.lemmas.Bool.{eq-eqb, ne_eqb, cond-false, and_from, and_left, and_right, or_left}
 use Rattle.vector.specs.Blank.{row0, slot0, plan0, channel0}
@@ -20,7 +21,7 @@ use Rattle.vector.specs.declared.tables.Plan.{Plan}
 use Rattle.vector.specs.declared.tables.Port.{Port}
 use Rattle.vector.specs.declared.tables.Slot.{Slot}
 use Rattle.vector.proofs.Lists.{replaced, changed, all_alike, same-part}
-use Rattle.vector.proofs.Anys.{or_assoc, any_more, any-set, padded-same}
+use Rattle.vector.proofs.Anys.{any_more, any-set, padded-same}
 
 -- partitions: how many there are, and which names they have
 

@@ -22,7 +22,7 @@ use Rattle.vector.specs.declared.tables.Slot as slots
 use Rattle.vector.proofs.Joined.{after, Related}
 use Rattle.vector.proofs.Rooms.{in_scope}
 use Rattle.vector.proofs.Fits.{Fit}
-use Rattle.vector.proofs.Anys.{any-++}
+use Rattle.std.proofs.lemmas.List.Folds.{list_any-append}
 use Rattle.vector.proofs.Seen.{SeenPartitions, seen-partition, still-partitions, SeenPlans, seen-plan, seen-slot, SeenWires, clashes_with, clashes_in, asked, seen-channel, seen-port, SeenLinks, no_links, seen-link, still-links, SeenLines, seen-line, SeenActions, seen-action}
 
 abbrev pub stage : ℕ → ℕ → List PartitionIn → List PlanIn → List ChannelIn → List LinkIn → List LineIn → List ActionIn → Config
@@ -79,7 +79,7 @@ in_others : (p c : ℕ) (n : List ℕ) (ks : List ChannelIn) → length ks ≤ c
 in_others p c n [] h = refl
 in_others p c n (k ∷ ks) h =
     ap₂ ◌||◌ (ap (λ b. any (clashes_with p b n) k.ports) (ne_eqb c (length ks) (λ e. omega arith))) (in_others p c n ks (omega arith))
-    ∙ sym (any-++ (is_called p n) k.ports (ports_in ks))
+    ∙ sym (list_any-append (is_called p n) k.ports (ports_in ks))
 
 in_channel : (p c : ℕ) (n : List ℕ) (k : ChannelIn) (ks : List ChannelIn) → c ≡ length ks → clashes_in p c n (k ∷ ks) ≡ (any (is_of p) k.ports || any (is_called p n) (ports_in ks))
 in_channel p c n k ks e =

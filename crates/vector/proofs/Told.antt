@@ -37,8 +37,8 @@ masked-fine n p at m u e =
 
 scope-fine : (a b : Bool) (v p : ℕ) (r : Reason) → cond a (fine (scopes.Partition v)) (cond b (fine scopes.System) (bad r)) ≡ fine (scopes.Partition p) → (a ≡ true) × (v ≡ p)
 scope-fine true b v p r e = (refl, cc)
-scope-fine false true v p r e = absurd (let z : ◌≡◌ {A = ℕ} 0 1 = cc in omega arith)
-scope-fine false false v p r e = absurd (let z : ◌≡◌ {A = ℕ} 0 1 = cc in omega arith)
+scope-fine false true v p r e = absurd cc
+scope-fine false false v p r e = absurd cc
 
 event_in_lem : (n at v at' e : ℕ) (c : Scope) (u : Unit {0}) → scope_of n at v ≡ fine c → event_of c at' e ≡ fine u → EventIn n c e
 event_in_lem n at v at' e (scopes.Partition p) u s h =
@@ -53,7 +53,7 @@ system-allows true b c d x r e = same-fine (Allows scopes.System) Ignore x e tt
 system-allows false true c d x r e = same-fine (Allows scopes.System) Halt x e tt
 system-allows false false true d x r e = same-fine (Allows scopes.System) WarmReset x e tt
 system-allows false false false true x r e = same-fine (Allows scopes.System) ColdReset x e tt
-system-allows false false false false x r e = absurd (let z : ◌≡◌ {A = ℕ} 0 1 = cc in omega arith)
+system-allows false false false false x r e = absurd cc
 
 allows : (c : Scope) (at v : ℕ) (x : actions.Action) → action_of c at v ≡ fine x → Allows c x
 allows (scopes.Partition p) at v x e = tt

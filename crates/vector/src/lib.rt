@@ -37,6 +37,7 @@ pub(crate) mod turn;
 
 /// Whether the bytes are a vector that is taken: it is if and only if it is the vector of a valid configuration. What is shown of
 /// a vector's records gives back its bytes.
+#[tactic(auto, using(crate::proofs::Reached::taken_is_valid, crate::proofs::Written::records_written))]
 pub fn check(bytes: &[u8]) -> Result<(), Refusal>
     ensures answer { verdict_of (out reason (λ u. u) result) ≡ verdict bytes.now }
     ensures exact { TakenIsValid }

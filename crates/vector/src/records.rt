@@ -13,6 +13,7 @@ use crate::sofar::Sofar;
 
 impl<'a> Records<'a> {
     /// The records of a vector, none read yet; what is shown of each gives back its bytes.
+    #[tactic(auto, using(crate::proofs::Written::records_written))]
     pub fn of(bytes: &'a [u8]) -> Records<'a>
         ensures start { point_of result ≡ record { at = 0; sofar = nothing; rest = bytes.now } }
         ensures written { RecordsWritten }
