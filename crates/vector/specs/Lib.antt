@@ -12,6 +12,7 @@ pub mod Names
 pub mod Sofars
 pub mod Turns
 pub mod Joins
+pub mod Events
 pub mod Rooms
 pub mod Reading
 pub mod Points

@@ -3,7 +3,7 @@ ghost use Rattle.std.specs.Prelude.{◌≡◌, ◌+◌, ◌^◌, ◌<◌, ◌≤
 ghost use Rattle.vector.specs.Bodies.{said_of};
 ghost use Rattle.vector.specs.Rooms.{Room};
 ghost use Rattle.vector.specs.Frames.{suits};
-ghost use Rattle.vector.specs.Joins.{InScope, Ready, joined, joined_partition, joined_slot, joined_channel, joined_port, joined_link, joined_line, joined_action};
+ghost use Rattle.vector.specs.Joins.{Ready, joined, joined_partition, joined_slot, joined_channel, joined_port, joined_link, joined_line, joined_action};
 ghost use Rattle.vector.specs.Out.{out};
 ghost use Rattle.vector.specs.Reading.{heard};
 ghost use Rattle.vector.specs.Reasons.{reason, relation_reason};
@@ -11,9 +11,10 @@ ghost use Rattle.vector.specs.Rows.{open_channel};
 ghost use Rattle.vector.specs.Sofars.{with_header, with_tables};
 
 use crate::bodies::{Body, read_body};
+use crate::event::Event;
 use crate::fault::{Refusal, RelationFault};
 use crate::names::{is_clashing, is_named};
-use crate::record::{Kind, Record, Scope};
+use crate::record::{Kind, Record};
 use crate::sofar::Sofar;
 use crate::tables::{Channel, Name, PartitionRow, Port, Response, Slot, Tables};
 
@@ -101,23 +102,19 @@ impl Sofar {
 
     fn with_action(
         self,
-        scope: Scope,
-        event: u8,
+        event: Event,
         response: Response,
         at: usize,
     ) -> Result<Sofar, RelationFault>
-        requires { InScope scope event }
-        ensures { out relation_reason (λ s. s) result ≡ joined_action at self scope event response }
+        ensures { out relation_reason (λ s. s) result ≡ joined_action at self event.scope event.number response }
     {
-        if self.given.has(scope, event) {
+        if self.given.has(event) {
             return Err(RelationFault::Repeated { at });
         }
-        let given = self.given.with(scope, event);
-        let tables = self.tables.respond(scope, event, response);
         Ok(Sofar {
             last: Some(Kind::Action),
-            given,
-            tables,
+            given: self.given.with(event),
+            tables: self.tables.respond(event, response),
             ..self
         })
     }
@@ -192,7 +189,13 @@ impl Sofar {
                 event,
                 action,
                 log,
-            } => { self.with_action(scope, event, Response { action, log }, at) }
+            } => {
+                let event = Event {
+                    scope,
+                    number: event,
+                };
+                self.with_action(event, Response { action, log }, at)
+            }
         }
     }
 

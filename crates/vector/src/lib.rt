@@ -17,6 +17,7 @@ pub(crate) mod blank;
 pub(crate) mod bodies;
 pub mod checked;
 pub(crate) mod codes;
+pub(crate) mod event;
 pub mod export;
 pub mod fault;
 pub(crate) mod fields;

@@ -1,8 +1,9 @@
 // The tables with one more row.
 ghost use Rattle.std.specs.Prelude.{◌≡◌, ◌+◌, ◌^◌, ◌<◌, ◌≤◌};
-ghost use Rattle.vector.specs.Joins.{InScope, respond};
-ghost use Rattle.vector.specs.Rows.{placed, slot_end, end_of, ported, open_plan, open_channel, add_partition, add_plan, add_slot, add_channel, add_port, add_link, add_line, add_response, add_system_response};
+ghost use Rattle.vector.specs.Joins.{respond};
+ghost use Rattle.vector.specs.Rows.{placed, slot_end, end_of, ported, open_plan, open_channel, add_partition, add_plan, add_slot, add_channel, add_port, add_link, add_line};
 
+use crate::event::Event;
 use crate::record::Scope;
 use crate::tables::{Channel, PartitionRow, Plan, Port, Response, Slot, Tables};
 
@@ -126,29 +127,16 @@ impl Tables {
         self
     }
 
-    pub(crate) fn with_response(mut self, partition: u8, event: u8, response: Response) -> Tables
-        requires { (partition < 8) × (event < 8) }
-        ensures { result ≡ add_response partition event response self }
+    pub(crate) fn respond(mut self, event: Event, response: Response) -> Tables
+        ensures { result ≡ respond event.scope event.number response self }
     {
-        self.partitions.rows[partition as usize].responses[event as usize] = response;
-        self
-    }
-
-    pub(crate) fn with_system_response(mut self, event: u8, response: Response) -> Tables
-        requires { (8 ≤ event) × (event < 12) }
-        ensures { result ≡ add_system_response event response self }
-    {
-        self.system[event as usize - 8] = response;
-        self
-    }
-
-    pub(crate) fn respond(self, scope: Scope, event: u8, response: Response) -> Tables
-        requires { InScope scope event }
-        ensures { result ≡ respond scope event response self }
-    {
-        match scope {
-            Scope::Partition(partition) => self.with_response(partition, event, response),
-            Scope::System => self.with_system_response(event, response),
+        let number = event.number as usize;
+        match event.scope {
+            Scope::Partition(partition) => self
+                .partitions
+                .rows[partition as usize].responses[number] = response,
+            Scope::System => self.system[number - 8] = response,
         }
+        self
     }
 }

@@ -1,8 +1,8 @@
 // What the records so far have said.
 ghost use Rattle.std.specs.Prelude.{◌≡◌};
-ghost use Rattle.vector.specs.Joins.{InScope};
 ghost use Rattle.vector.specs.Sofars.{nothing, is_given, giving};
 
+use crate::event::Event;
 use crate::record::{Kind, Scope};
 use crate::tables::Tables;
 
@@ -41,24 +41,23 @@ impl Sofar {
 }
 
 impl Given {
-    pub(crate) fn has(&self, scope: Scope, event: u8) -> bool
-        requires { InScope scope event }
-        ensures { result ≡ is_given scope event self.now }
+    pub(crate) fn has(&self, event: Event) -> bool
+        ensures { result ≡ is_given event.scope event.number self.now }
     {
-        match scope {
-            Scope::Partition(partition) => self.partitions[partition as usize][event as usize],
-            Scope::System => self.system[event as usize - 8],
+        let number = event.number as usize;
+        match event.scope {
+            Scope::Partition(partition) => self.partitions[partition as usize][number],
+            Scope::System => self.system[number - 8],
         }
     }
 
-    pub(crate) fn with(mut self, scope: Scope, event: u8) -> Given
-        requires { InScope scope event }
-        ensures { result ≡ giving scope event self }
+    pub(crate) fn with(mut self, event: Event) -> Given
+        ensures { result ≡ giving event.scope event.number self }
     {
-        match scope {
-            Scope::Partition(partition) => self.partitions[partition as usize][event as usize] =
-                true,
-            Scope::System => self.system[event as usize - 8] = true,
+        let number = event.number as usize;
+        match event.scope {
+            Scope::Partition(partition) => self.partitions[partition as usize][number] = true,
+            Scope::System => self.system[number - 8] = true,
         }
         self
     }
