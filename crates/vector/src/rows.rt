@@ -132,9 +132,9 @@ impl Tables {
     {
         let number = event.number as usize;
         match event.scope {
-            Scope::Partition(partition) => self
-                .partitions
-                .rows[partition as usize].responses[number] = response,
+            Scope::Partition(partition) => {
+                self.partitions.rows[partition as usize].responses[number] = response
+            }
             Scope::System => self.system[number - 8] = response,
         }
         self
