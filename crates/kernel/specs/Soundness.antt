@@ -16,11 +16,11 @@ Framed ps = (i : ℕ) → i < ps.count → (1 ≤ (plan_at ps i).frame) × ((pla
 
 -- each plan has at most 16 slots
 abbrev pub Slotted : Plans → Type 0
-Slotted ps = (i : ℕ) → i < ps.count → (plan_at ps i).count ≤ 16
+Slotted ps = (i : ℕ) → i < ps.count → (plan_at ps i).slots.count ≤ 16
 
 -- each slot is of a partition below 8
 abbrev pub Owned : Plans → Type 0
-Owned ps = (i j : ℕ) → i < ps.count → j < (plan_at ps i).count → (slice_index_or (plan_at ps i).slots j slot0).partition < 8
+Owned ps = (i j : ℕ) → i < ps.count → j < (plan_at ps i).slots.count → (slice_index_or (plan_at ps i).slots.rows j slot0).partition < 8
 
 -- the channel of each port takes messages of at most 64 bytes, and at most 8 of them
 abbrev pub Bounded : Tables → Type 0

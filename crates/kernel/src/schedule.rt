@@ -17,11 +17,11 @@ fn is_covering(slot: &Slot, offset: Time) -> bool
 
 /// The partition whose slot runs at an offset of the plan's frame.
 pub(crate) fn holder(plan: &Plan, offset: Time) -> Option<u8>
-    requires { plan.now.count ≤ 16 }
+    requires { plan.now.slots.count ≤ 16 }
     ensures { result ≡ holder (slots_of plan.now) offset }
 {
-    for i in 0..plan.count {
-        let slot = &plan.slots[i];
+    for i in 0..plan.slots.count {
+        let slot = &plan.slots.rows[i];
         if is_covering(slot, offset) {
             return Some(slot.partition);
         }
@@ -37,8 +37,8 @@ pub(crate) fn slotless(plan: &Plan) -> Time
 {
     let mut end: Time = 0;
     let mut sum: Time = 0;
-    for i in 0..plan.count {
-        let slot = &plan.slots[i];
+    for i in 0..plan.slots.count {
+        let slot = &plan.slots.rows[i];
         sum += slot.start.saturating_sub(end);
         end = slot.start + slot.duration;
     }
