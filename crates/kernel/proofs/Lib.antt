@@ -1,4 +1,3 @@
-pub mod Channelling
 pub mod Copying
 pub mod Going
 pub mod Holding
@@ -6,3 +5,4 @@ pub mod Wiping
 pub mod Gapping
 pub mod Keeping
 pub mod Grounding
+pub mod Channelling

@@ -1,6 +1,5 @@
 pub mod Soundness
-pub mod Logs
-pub mod Rings
+pub mod Channels
 pub mod World
 pub mod Decisions
 pub mod Promises

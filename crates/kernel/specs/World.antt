@@ -8,8 +8,6 @@ use Rattle.machine.specs.State.{Core as Machine}
 use Rattle.machine.specs.Management.{Call}
 use Rattle.machine.specs.Step.{step, boot}
 use Rattle.machine.specs.Runs.{after}
-use Rattle.kernel.specs.Logs.{log_of}
-use Rattle.kernel.specs.Rings.{chans_of}
 use Rattle.kernel.specs.declared.inner.Core.{Core}
 use Rattle.kernel.specs.declared.whole.System.{System}
 
@@ -23,7 +21,7 @@ pub record Moved : Type 0 where
   pub result : Result
 
 abbrev pub core_of : Core → Machine
-core_of x = record { clock = x.clock; halted = x.halted; parts = x.parts; chans = chans_of x.channels; log = log_of x.log }
+core_of x = record { clock = x.clock; halted = x.halted; parts = x.parts; chans = x.channels; log = x.log }
 
 module _ {B : Type 0} where
   -- a system on a board whose areas are `m` of it

@@ -1,22 +1,30 @@
 // The log: the last 32 entries.
-ghost use Rattle.std.specs.Prelude.{◌≡◌, List, [], length};
+ghost use Rattle.std.specs.Prelude.{◌≡◌, [], length};
 ghost use Rattle.queue.specs.Ring.{first, rest, over};
-ghost use Rattle.kernel.specs.Logs.{log_of, Noted};
 
 use machine::log::Entry;
 use queue::Queue;
+use std::marker::Model;
 use vector::tables::Action;
 
 #[derive(Drop)]
 pub struct Log {
-    cells: [Entry; 32],
-    queue: Queue,
+    queue: Queue<Entry, 32>,
+}
+
+// Clauses see the entries, oldest first.
+impl Model for Log {
+    ghost use Rattle.std.specs.Prelude.{List};
+    ghost use Rattle.machine.specs.declared.log.Entry.{Entry};
+
+    ghost Value = { List Entry };
+
+    ghost view = { λ l. l.queue };
 }
 
 impl Log {
     pub(crate) fn new() -> Log
-        ensures sound { Noted result }
-        ensures is { log_of result ≡ [] }
+        ensures { result ≡ [] }
     {
         let blank = Entry {
             action: Action::Ignore,
@@ -25,44 +33,35 @@ impl Log {
             time: 0,
         };
         Log {
-            cells: [blank; 32],
-            queue: Queue::new(),
+            queue: Queue::new(blank),
         }
     }
 
     /// One entry more; the oldest of 32 gives way.
     pub(crate) fn note(&mut self, e: Entry)
-        requires sound { Noted self.old }
-        ensures sound { Noted self.new }
-        ensures is { log_of self.new ≡ over 32 (log_of self.old) e }
+        ensures { self.new ≡ over 32 self.old e }
     {
-        let cells = &mut self.cells;
-        self.queue.push_over(cells, e);
+        self.queue.push_over(e);
     }
 
     pub(crate) fn clear(&mut self)
-        requires sound { Noted self.old }
-        ensures sound { Noted self.new }
-        ensures is { log_of self.new ≡ [] }
+        ensures { self.new ≡ [] }
     {
-        self.queue.clear(&self.cells);
+        self.queue.clear();
     }
 
     /// Takes the oldest entry.
     pub(crate) fn take(&mut self) -> Option<Entry>
-        requires sound { Noted self.old }
-        ensures sound { Noted self.new }
-        ensures took { result ≡ first (log_of self.old) }
-        ensures left { log_of self.new ≡ rest (log_of self.old) }
+        ensures took { result ≡ first self.old }
+        ensures left { self.new ≡ rest self.old }
     {
-        self.queue.pop(&self.cells)
+        self.queue.pop()
     }
 
     /// How many entries there are.
     pub(crate) fn count(&self) -> u8
-        requires sound { Noted self.now }
-        ensures { result ≡ length (log_of self.now) }
+        ensures { result ≡ length self.now }
     {
-        self.queue.count(&self.cells) as u8
+        self.queue.count() as u8
     }
 }

@@ -1,10 +1,8 @@
-// The system: a board, and the core whose log, tables and clock are sound.
+// The system: a board, and the core whose tables and clock are sound.
 ghost use Rattle.std.specs.Prelude.{◌≤◌};
 ghost use Rattle.vector.specs.Fair.{AllWithin};
 ghost use Rattle.clock.specs.Timely.{Timely};
 ghost use Rattle.lookup.specs.Bounds.{Ported, Joined, Lined};
-ghost use Rattle.kernel.specs.Logs.{Noted};
-ghost use Rattle.kernel.specs.Rings.{Rings};
 ghost use Rattle.kernel.specs.Soundness.{Planned, Framed, Slotted, Owned, Bounded};
 
 use crate::inner::Core;
@@ -13,8 +11,6 @@ use crate::inner::Core;
 pub struct System<B> {
     pub(crate) board: B,
     pub(crate) core: Core,
-    ghost noted: { Noted core.log },
-    ghost rings: { Rings core.channels },
     ghost few: { core.tables.partitions.count ≤ 8 },
     ghost planned: { Planned core.tables.plans },
     ghost framed: { Framed core.tables.plans },

@@ -1,20 +1,9 @@
 -- A queue is the list of its entries, the oldest first; in memory they lie in a ring of cells.
-use Rattle.std.specs.Prelude.{ℕ, ◌+◌, ◌-◌, ◌<◌, ◌≤◌, cond, List, [], ◌∷◌, ◌++◌, length, take, drop, Some, None, Option, ◌==◌, nat_lt}
-use Rattle.queue.specs.declared.Queue.{Queue}
+use Rattle.std.specs.Prelude.{ℕ, ◌+◌, ◌-◌, cond, List, [], ◌∷◌, ◌++◌, length, take, drop, Some, None, Option, ◌==◌, nat_lt}
 
 -- the entries in the cells: n of them from the cell h on, round the end
-unfoldable pub items : {X : Type 0} → ℕ → ℕ → List X → List X
-items h n cells = take n (drop h cells ++ take h cells)
-
-abbrev pub entries : {X : Type 0} → Queue → List X → List X
-entries q cells = items q.head q.count cells
-
--- the head lies in the cells, and there are no more entries than cells
-abbrev pub Sound : {X : Type 0} → Queue → List X → Type 0
-Sound q cells = (q.head < length cells) × (q.count ≤ length cells)
-
-abbrev pub empty : Queue
-empty = record { head = 0; count = 0 }
+unfoldable pub entries : {X : Type 0} → ℕ → ℕ → List X → List X
+entries h n cells = take n (drop h cells ++ take h cells)
 
 abbrev pub first : {X : Type 0} → List X → Option X
 first [] = None

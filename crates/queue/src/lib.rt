@@ -1,154 +1,133 @@
-//! A queue over cells that its callers lend, for every kind of entry.
+//! A queue that owns its cells, for every kind of entry and every number of cells.
 #![tactic(auto)]
 
-ghost use Rattle.std.specs.Prelude.{◌≡◌, ◌+◌, ◌-◌, ◌<◌, ◌≤◌, true, false, [], ◌∷◌, ◌++◌, length, take, Some, nat_lt};
-ghost use Rattle.queue.specs.Ring.{entries, empty, first, rest, pushed, over, next, spot, Sound};
+ghost use Rattle.std.specs.Prelude.{◌≡◌, ◌+◌, ◌<◌, ◌≤◌, true, false, [], ◌∷◌, ◌++◌, length, take, Some, nat_lt};
+ghost use Rattle.queue.specs.Ring.{first, rest, pushed, over, next, spot};
 
-/// Where the entries lie in the cells: `count` of them from `head` on, round the end.
-/// The cells are lent at each call, and are the same ones each time.
-#[derive(Clone, Copy)]
-pub struct Queue {
+use std::marker::Model;
+
+/// At most N entries: `count` of them lie in the cells from `head` on, round the end.
+#[derive(Drop)]
+pub struct Queue<X, const N: usize> {
+    cells: [X; N],
     head: usize,
     count: usize,
 }
 
-impl Queue {
-    pub fn new() -> Queue
-        ensures { result ≡ empty }
+// Clauses see the entries, oldest first.
+impl<X, const N: usize> Model for Queue<X, N> {
+    ghost use Rattle.std.specs.Prelude.{◌<◌, ◌≤◌, List};
+    ghost use Rattle.queue.specs.Ring.{entries};
+
+    ghost Value = { List X };
+
+    ghost view = { λ q. entries q.head q.count q.cells };
+
+    // the head is one of the cells, where there is one
+    ghost invariant = { λ q. (q.count ≤ N) × (0 < N → q.head < N) };
+}
+
+impl<X: Copy, const N: usize> Queue<X, N> {
+    /// An empty queue; the blank fills the cells until entries come.
+    #[tactic(auto, unfolding(crate::specs::Ring::entries))]
+    pub fn new(blank: X) -> Self
+        ensures { result ≡ [] }
     {
-        Queue { head: 0, count: 0 }
+        Queue {
+            cells: [blank; N],
+            head: 0,
+            count: 0,
+        }
     }
 
     /// How many entries there are.
-    pub fn count<X: Copy>(&self, cells: &[X]) -> usize
-        requires sound { Sound self.now cells.now }
-        ensures is { result ≡ length (entries self.now cells.now) }
-        ensures few { result ≤ length cells.now }
+    #[tactic(auto, using(crate::proofs::Rings::counted))]
+    pub fn count(&self) -> usize
+        ensures is { result ≡ length self.now }
+        ensures few { result ≤ N }
     {
-        cells.len() - self.room(cells)
+        self.count
     }
 
     /// The oldest entry.
-    pub fn oldest<X: Copy>(&self, cells: &[X]) -> Option<X>
-        requires sound { Sound self.now cells.now }
-        ensures { result ≡ first (entries self.now cells.now) }
+    #[tactic(auto, using(crate::proofs::Rings::counted, crate::proofs::Rings::oldest_is), unfolding(crate::specs::Ring::entries))]
+    pub fn oldest(&self) -> Option<X>
+        ensures { result ≡ first self.now }
     {
-        if self.is_empty(cells) {
+        if self.count == 0 {
             None
         } else {
-            Some(self.front(cells))
+            Some(self.cells[self.head])
         }
     }
 
-    pub fn clear<X: Copy>(&mut self, cells: &[X])
-        requires sound { Sound self.old cells.now }
-        ensures sound { Sound self.new cells.now }
-        ensures is { entries self.new cells.now ≡ [] }
+    #[tactic(auto, unfolding(crate::specs::Ring::entries))]
+    pub fn clear(&mut self)
+        ensures { self.new ≡ [] }
     {
-        self.truncate(cells, 0);
+        self.count = 0;
     }
 
     /// One entry more; false where every cell is taken.
-    pub fn push<X: Copy>(&mut self, cells: &mut [X], x: X) -> bool
-        requires sound { Sound self.old cells.old }
-        ensures sound { Sound self.new cells.new }
-        ensures width { length cells.new ≡ length cells.old }
-        ensures room { result ≡ nat_lt (length (entries self.old cells.old)) (length cells.old) }
-        ensures is { entries self.new cells.new ≡ pushed (length cells.old) (entries self.old cells.old) x }
+    pub fn push(&mut self, x: X) -> bool
+        ensures room { result ≡ nat_lt (length self.old) N }
+        ensures is { self.new ≡ pushed N self.old x }
     {
-        if self.room(cells) == 0 {
+        if self.is_full() {
             return false;
         }
-        self.put(cells, x);
+        self.put(x);
         true
     }
 
     /// Takes the oldest entry.
-    pub fn pop<X: Copy>(&mut self, cells: &[X]) -> Option<X>
-        requires sound { Sound self.old cells.now }
-        ensures sound { Sound self.new cells.now }
-        ensures took { result ≡ first (entries self.old cells.now) }
-        ensures left { entries self.new cells.now ≡ rest (entries self.old cells.now) }
+    pub fn pop(&mut self) -> Option<X>
+        ensures took { result ≡ first self.old }
+        ensures left { self.new ≡ rest self.old }
     {
-        let x = self.oldest(cells);
-        self.drop_oldest(cells);
+        let x = self.oldest();
+        self.drop_oldest();
         x
     }
 
     /// One entry more; where every cell is taken the oldest entry gives way.
-    pub fn push_over<X: Copy>(&mut self, cells: &mut [X], x: X)
-        requires sound { Sound self.old cells.old }
-        ensures sound { Sound self.new cells.new }
-        ensures width { length cells.new ≡ length cells.old }
-        ensures is { entries self.new cells.new ≡ over (length cells.old) (entries self.old cells.old) x }
+    pub fn push_over(&mut self, x: X)
+        requires { 0 < N }
+        ensures { self.new ≡ over N self.old x }
     {
-        if self.room(cells) == 0 {
-            self.drop_oldest(cells);
+        if self.is_full() {
+            self.drop_oldest();
         }
-        self.put(cells, x);
+        self.put(x);
     }
 
-    /// How many cells are not taken.
-    fn room<X: Copy>(&self, cells: &[X]) -> usize
-        requires sound { Sound self.now cells.now }
-        ensures is { length (entries self.now cells.now) + result ≡ length cells.now }
-        ensures free { self.now.count + result ≡ length cells.now }
+    /// Whether every cell is taken.
+    #[tactic(auto, using(crate::proofs::Rings::counted))]
+    fn is_full(&self) -> bool
+        ensures full { result ≡ true → length self.now ≡ N }
+        ensures room { result ≡ false → length self.now < N }
     {
-        cells.len() - self.count
-    }
-
-    fn is_empty<X: Copy>(&self, cells: &[X]) -> bool
-        requires sound { Sound self.now cells.now }
-        ensures none { result ≡ true → entries self.now cells.now ≡ [] }
-        ensures some { result ≡ false → 0 < length (entries self.now cells.now) }
-    {
-        self.count == 0
-    }
-
-    /// The oldest entry, where there is one.
-    fn front<X: Copy>(&self, cells: &[X]) -> X
-        requires sound { Sound self.now cells.now }
-        requires some { 0 < length (entries self.now cells.now) }
-        ensures { Some result ≡ first (entries self.now cells.now) }
-    {
-        cells[self.head]
+        self.count == N
     }
 
     /// Drops the oldest entry, where there is one.
-    fn drop_oldest<X: Copy>(&mut self, cells: &[X])
-        requires sound { Sound self.old cells.now }
-        ensures sound { Sound self.new cells.now }
-        ensures fewer { self.new.count ≡ self.old.count - 1 }
-        ensures left { entries self.new cells.now ≡ rest (entries self.old cells.now) }
+    #[tactic(auto, using(crate::proofs::Rings::counted, crate::proofs::Rings::others_are), unfolding(crate::specs::Ring::entries))]
+    fn drop_oldest(&mut self)
+        ensures { self.new ≡ rest self.old }
     {
         if self.count > 0 {
-            self.head = after(self.head, cells.len());
+            self.head = after(self.head, N);
             self.count -= 1;
         }
     }
 
-    /// Keeps the n oldest entries, or all where there are fewer.
-    fn truncate<X: Copy>(&mut self, cells: &[X], n: usize)
-        requires sound { Sound self.old cells.now }
-        ensures sound { Sound self.new cells.now }
-        ensures few { self.new.count ≤ n }
-        ensures is { entries self.new cells.now ≡ take n (entries self.old cells.now) }
-    {
-        if n < self.count {
-            self.count = n;
-        }
-    }
-
     /// One entry more, where there is room.
-    fn put<X: Copy>(&mut self, cells: &mut [X], x: X)
-        requires sound { Sound self.old cells.old }
-        requires room { self.old.count < length cells.old }
-        ensures sound { Sound self.new cells.new }
-        ensures width { length cells.new ≡ length cells.old }
-        ensures is { entries self.new cells.new ≡ entries self.old cells.old ++ x ∷ [] }
+    #[tactic(auto, using(crate::proofs::Rings::counted, crate::proofs::Rings::put_at))]
+    fn put(&mut self, x: X)
+        requires room { length self.old < N }
+        ensures { self.new ≡ self.old ++ x ∷ [] }
     {
-        let at = place(self.head, self.count, cells.len());
-        cells[at] = x;
+        self.cells[place(self.head, self.count, N)] = x;
         self.count += 1;
     }
 }

@@ -7,8 +7,6 @@ invariant_of-result g c =
     let s = c.tables-tables.ensures.sound in
     let f = c.tables-tables.ensures.fair in
     record {
-      noted = c.new-3.ensures.sound;
-      rings = c.new-2.ensures.sound;
       few = s.1;
       planned = planned t s;
       framed = framed t s;
