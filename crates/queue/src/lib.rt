@@ -7,7 +7,7 @@ ghost use Rattle.queue.specs.Ring.{first, rest, pushed, over, next, spot};
 use std::marker::Model;
 
 /// At most N entries: `count` of them lie in the cells from `head` on, round the end.
-#[derive(Drop)]
+#[derive(Clone, Drop)]
 pub struct Queue<X, const N: usize> {
     cells: [X; N],
     head: usize,
