@@ -1,7 +1,7 @@
 //! A queue that owns its cells, for every kind of entry and every number of cells.
 #![tactic(auto)]
 
-ghost use Rattle.std.specs.Prelude.{◌≡◌, ◌+◌, ◌<◌, ◌≤◌, true, false, [], ◌∷◌, ◌++◌, length, take, Some, nat_lt};
+ghost use Rattle.std.specs.Prelude.{◌≡◌, ◌<◌, ◌≤◌, true, false, [], ◌∷◌, ◌++◌, length, nat_lt};
 ghost use Rattle.queue.specs.Ring.{first, rest, pushed, over, next, spot};
 
 use std::marker::Model;
