@@ -1,6 +1,5 @@
 // What an event is answered, and the numbers of each answer.
 ghost use Rattle.std.specs.Prelude.{◌≡◌, ℤ, pos};
-ghost use Rattle.vector.specs.Encoding.{action_number};
 ghost use Rattle.machine.specs.Answers.{refusal_code, status_number, reply, reply_of, answer_reply};
 
 use crate::clock::Time;
@@ -44,7 +43,7 @@ impl From<Refusal> for i32 {
 }
 
 /// An answer: done, or a value that was asked for.
-#[derive(Clone, Copy)]
+#[derive(Clone, Copy, Debug, PartialEq, Eq)]
 pub enum Answer {
     Done,
     Time(Time),
@@ -104,7 +103,7 @@ impl From<Answer> for Reply {
             Answer::Logged { left, entry } => Reply::new(left, entry.time, entry.packed()),
             Answer::Byte(byte) => Reply::new(0, u32::from(byte), 0),
             Answer::Outside => Reply::new(1, 0, 0),
-            Answer::Responded(action) => Reply::new(action_number(action), 0, 0),
+            Answer::Responded(action) => Reply::new(u8::from(action), 0, 0),
         }
     }
 }
@@ -121,18 +120,5 @@ impl From<Outcome> for Reply {
                 b: 0,
             },
         }
-    }
-}
-
-pub(crate) fn action_number(action: Action) -> u8
-    ensures { result ≡ action_number action }
-{
-    match action {
-        Action::Ignore => 0,
-        Action::Signal => 1,
-        Action::Suspend => 2,
-        Action::Halt => 3,
-        Action::WarmReset => 4,
-        Action::ColdReset => 5,
     }
 }

@@ -109,7 +109,7 @@ impl TryFrom<u8> for Hypercall {
 }
 
 /// A line of a history: an event, and what it came to.
-#[derive(Clone, Copy)]
+#[derive(Clone, Copy, Debug, PartialEq, Eq)]
 pub struct Exchange {
     pub event: Event,
     pub answer: Outcome,

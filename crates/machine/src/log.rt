@@ -3,7 +3,6 @@ ghost use Rattle.std.specs.Prelude.{◌≡◌};
 ghost use Rattle.vector.specs.Encoding.{scope_number};
 ghost use Rattle.machine.specs.Answers.{packed};
 
-use crate::answer::action_number;
 use crate::clock::Time;
 use vector::record::Scope;
 use vector::tables::Action;
@@ -12,7 +11,7 @@ use vector::tables::Action;
 pub const SYSTEM: u8 = 255;
 
 /// A fault event of a partition or of the system, and the action that was taken.
-#[derive(Clone, Copy)]
+#[derive(Clone, Copy, Debug, PartialEq, Eq)]
 pub struct Entry {
     pub action: Action,
     pub scope: Scope,
@@ -27,7 +26,7 @@ impl Entry {
     {
         u32::from(scope_number(self.scope))
             + 256 * u32::from(self.event)
-            + 65536 * u32::from(action_number(self.action))
+            + 65536 * u32::from(u8::from(self.action))
     }
 }
 
