@@ -4,7 +4,7 @@ use borrow.Author.Tests.{lt-leb}
 use Rattle.std.proofs.lemmas.List.{take_all, take-append-drop, nil_from_length}
 use Rattle.vector.specs.declared.tables.Tables.{Tables}
 use Rattle.machine.specs.declared.event.Event.{Event}
-use Rattle.machine.specs.Answers.{Reply}
+use Rattle.machine.specs.declared.answer.Reply.{Reply}
 use Rattle.machine.specs.State.{State}
 use Rattle.machine.specs.Step.{step}
 use Rattle.machine.specs.Runs.{after, lines}

@@ -2,7 +2,7 @@
 use Rattle.std.specs.Prelude.{ℕ, ◌/◌, ◌%◌, List, [], ◌∷◌, ◌++◌, length, take, drop}
 use Rattle.std.specs.Int.{w32}
 use Rattle.std.proofs.Common.{of_z}
-use Rattle.machine.specs.Answers.{Reply}
+use Rattle.machine.specs.declared.answer.Reply.{Reply}
 use Rattle.machine.specs.Runs.{Line}
 
 -- a number in four bytes, the low byte first

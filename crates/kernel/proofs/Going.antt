@@ -1,10 +1,12 @@
 -- A run goes on by one event.
-use Rattle.std.proofs.Common.{◌≡◌, ℕ, ◌+◌, ◌<◌, ◌≤◌, List, [], ◌∷◌, ◌++◌, length, get_or, take, drop, set, sym, refl, ap, ◌∙◌, ap₂, arith}
+use Rattle.std.proofs.Common.{◌≡◌, ℕ, ◌+◌, ◌<◌, ◌≤◌, List, [], ◌∷◌, ◌++◌, length, get_or, take, drop, set, sym, refl, ap, ◌∙◌, ap₂, arith, Result}
 use Rattle.std.proofs.lemmas.List.{drop_more, drop_all, drop-set-lt, take_all, take_more_set, map_push, append_assoc, append-nil}
 use Rattle.vector.specs.declared.tables.Tables.{Tables}
 use Rattle.machine.specs.declared.event.Exchange.{Exchange}
 use Rattle.machine.specs.declared.answer.Answer.{Answer}
-use Rattle.machine.specs.Answers.{Reply, reply_of}
+use Rattle.machine.specs.declared.answer.Refusal.{Refusal}
+use Rattle.machine.specs.declared.answer.Reply.{Reply}
+use Rattle.machine.specs.Answers.{reply_of}
 use Rattle.machine.specs.State.{State}
 use Rattle.machine.specs.Step.{step, boot}
 use Rattle.machine.specs.Runs.{Line, line, line_of, lines_of, events_of, after, lines}
@@ -20,10 +22,10 @@ pub record Underway (z : World) (h : List Exchange) (w : World) (i : ℕ) (g : L
 pub begun : (z : World) (h : List Exchange) → Underway z h z 0 h
 begun z h = record { tables = refl; state = refl; told = refl }
 
-abbrev answered_by : Exchange → Answer → Exchange
+abbrev answered_by : Exchange → Result Answer Refusal → Exchange
 answered_by x r = record { event = x.event; answer = r }
 
-pub onward : (z : World) (h : List Exchange) (w v : World) (i : ℕ) (g : List Exchange) (r : Answer) (d : Exchange) →
+pub onward : (z : World) (h : List Exchange) (w v : World) (i : ℕ) (g : List Exchange) (r : Result Answer Refusal) (d : Exchange) →
     i < length g → gives v (reply_of r) ≡ stepped (get_or g i d).event w → Underway z h w i g →
     Underway z h v (i + 1) (set g i (answered_by (get_or g i d) r))
 unfolding after lines

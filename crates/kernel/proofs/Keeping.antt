@@ -7,7 +7,7 @@ use Rattle.vector.specs.declared.tables.Direction.{Direction}
 use Rattle.vector.specs.declared.tables.Direction.TheVariants.{Source, Destination}
 use Rattle.vector.specs.Fair.{Fair}
 use Rattle.machine.specs.declared.event.Event.{Event}
-use Rattle.machine.specs.Answers.{Reply}
+use Rattle.machine.specs.declared.answer.Reply.{Reply}
 use Rattle.machine.specs.Questions.{is_source, same_kind}
 use Rattle.machine.specs.State.{State, area}
 use Rattle.machine.specs.Step.{step, boot}

@@ -6,3 +6,4 @@ pub mod Gapping
 pub mod Keeping
 pub mod Grounding
 pub mod Channelling
+mod Rows

@@ -3,3 +3,4 @@ pub mod Channels
 pub mod World
 pub mod Decisions
 pub mod Promises
+pub mod Targets

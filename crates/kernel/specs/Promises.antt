@@ -3,7 +3,7 @@ use Rattle.std.specs.Prelude.{◌≡◌, ℕ, Bool, true, false, cond, List, [],
 use Rattle.vector.specs.declared.tables.Tables.{Tables}
 use Rattle.vector.specs.Names.{any}
 use Rattle.machine.specs.declared.event.Event.{Event}
-use Rattle.machine.specs.Answers.{Reply}
+use Rattle.machine.specs.declared.answer.Reply.{Reply}
 use Rattle.machine.specs.Questions.{exists, is_system}
 use Rattle.machine.specs.State.{Core, State, area}
 use Rattle.machine.specs.Step.{boot, fits, running}

@@ -30,8 +30,8 @@ pub(crate) fn is_fitting<B: Board>(tables: &Tables, board: &B) -> bool
     ensures { result ≡ fits tables.now (B.areas board.now) }
 {
     let mut fitting = true;
-    for i in 0..tables.partitions.count {
-        fitting &= board.size(i) == usize::from(tables.partitions.rows[i].size);
+    for (i, row) in tables.partitions.as_slice().iter().enumerate() {
+        fitting &= board.size(i) == usize::from(row.size);
     }
     fitting
 }

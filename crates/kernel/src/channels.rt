@@ -5,6 +5,7 @@ ghost use Rattle.queue.specs.Ring.{first, rest};
 ghost use Rattle.machine.specs.Letters.{letter_of};
 ghost use Rattle.kernel.specs.Channels.{chan_of};
 
+use crate::below::ChannelNumber;
 use machine::message::Message;
 use queue::Queue;
 use std::array;
@@ -35,47 +36,42 @@ impl Channels {
     }
 
     /// How many messages wait.
-    pub(crate) fn count(&self, c: usize) -> usize
-        requires channel { c < 8 }
+    pub(crate) fn count(&self, c: ChannelNumber) -> usize
         ensures is { result ≡ length (chan_of self.now c) }
         ensures few { result ≤ 8 }
     {
-        self.queues[c].count()
+        self.queues[c.index()].count()
     }
 
-    pub(crate) fn oldest(&self, c: usize) -> Option<Message>
-        requires channel { c < 8 }
+    pub(crate) fn oldest(&self, c: ChannelNumber) -> Option<Message>
         ensures { option_map letter_of result ≡ first (chan_of self.now c) }
     {
-        self.queues[c].oldest()
+        self.queues[c.index()].oldest()
     }
 
     /// Takes the oldest message out, and answers how many are left.
-    pub(crate) fn discard(&mut self, c: usize) -> u8
-        requires channel { c < 8 }
+    pub(crate) fn discard(&mut self, c: ChannelNumber) -> u8
         ensures is { self.new ≡ slice_set self.old c (rest (chan_of self.old c)) }
         ensures left { result ≡ length (rest (chan_of self.old c)) }
     {
-        let _ = self.queues[c].pop();
-        self.queues[c].count() as u8
+        let _ = self.queues[c.index()].pop();
+        self.queues[c.index()].count() as u8
     }
 
     /// Appends a message, where there is room.
     #[tactic(auto, using(crate::proofs::Channelling::appended))]
-    pub(crate) fn append(&mut self, c: usize, m: Message)
-        requires channel { c < 8 }
+    pub(crate) fn append(&mut self, c: ChannelNumber, m: Message)
         requires room { length (chan_of self.old c) < 8 }
         ensures { self.new ≡ slice_set self.old c (chan_of self.old c ++ (letter_of m ∷ [])) }
     {
-        let _ = self.queues[c].push(m);
+        let _ = self.queues[c.index()].push(m);
     }
 
     /// The message is the channel's only one.
-    pub(crate) fn replace(&mut self, c: usize, m: Message)
-        requires channel { c < 8 }
+    pub(crate) fn replace(&mut self, c: ChannelNumber, m: Message)
         ensures { self.new ≡ slice_set self.old c (letter_of m ∷ []) }
     {
-        self.queues[c].clear();
-        let _ = self.queues[c].push(m);
+        self.queues[c.index()].clear();
+        let _ = self.queues[c.index()].push(m);
     }
 }

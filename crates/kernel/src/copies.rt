@@ -23,11 +23,11 @@ fn load_into<B: Board>(board: &B, i: usize, at: usize, into: &mut [u8])
     requires inside { at + length into.old ≤ length (area (B.areas board.now) i) }
     ensures { into.new ≡ part (area (B.areas board.now) i) at (length into.old) }
 {
-    for k in 0..into.len() {
+    for (k, place) in into.iter_mut().enumerate() {
         let Some(byte) = board.load(i, at + k) else {
             unreachable()
         };
-        into[k] = byte;
+        *place = byte;
     }
 }
 
@@ -65,7 +65,7 @@ pub(crate) fn store_message<B: Board>(m: &Message, board: &mut B, i: usize, at: 
     requires inside { at + length (letter_of m.now).bytes ≤ length (area (B.areas board.old) i) }
     ensures { B.areas board.new ≡ slice_set (B.areas board.old) i (patched (area (B.areas board.old) i) at (letter_of m.now).bytes) }
 {
-    for k in 0..m.size() {
-        let _ = board.store(i, at as usize + k, m.bytes[k]);
+    for (k, byte) in m.bytes[..m.size()].iter().enumerate() {
+        let _ = board.store(i, at as usize + k, *byte);
     }
 }

@@ -1,6 +1,6 @@
 // The health monitor at work: faults, the log, and the calls on the system.
 ghost use Rattle.std.specs.Prelude.{◌≡◌, ℕ, ◌<◌, ◌≤◌, true};
-ghost use Rattle.machine.specs.Answers.{reply_of};
+ghost use Rattle.machine.specs.Answers.{answer_reply, reply_of};
 ghost use Rattle.machine.specs.declared.answer.Answer.TheVariants.{Responded};
 ghost use Rattle.machine.specs.Faults.{logged, carried, restarted, system_carried, strayed};
 ghost use Rattle.machine.specs.Monitor.{raise_partition_error, read_log, reset_system, halt_system};
@@ -9,16 +9,17 @@ ghost use Rattle.kernel.specs.Decisions.{executed, home, Reaches};
 ghost use Rattle.kernel.specs.World.{core_of, world_of, with_core, gives, settled, performed};
 
 use crate::areas::{wipe, wipe_all};
+use crate::below::Guest;
 use crate::channels::Channels;
-use crate::monitor::{Decision, Scope, decide, decide_whole};
+use crate::monitor::{Decision, decide};
 use crate::whole::System;
 use board::Board;
-use lookup::is_system;
-use machine::answer::{Answer, Refusal};
+use machine::answer::{Answer, Outcome, Refusal};
 use machine::clock::Clock;
 use machine::event::Args;
-use machine::log::{Entry, SYSTEM};
+use machine::log::Entry;
 use machine::partition::Partition;
+use vector::record::Scope;
 use vector::tables::{Action, Response};
 
 /// The bit that signals a fault.
@@ -32,13 +33,13 @@ const PARTITION_ERROR: u8 = 7;
 
 impl<B: Board> System<B> {
     /// The entry of a fault event, where the response asks for one.
-    fn note(&mut self, partition: u8, event: u8, response: Response)
-        ensures { world_of B.areas self.new ≡ with_core (logged partition event response (core_of self.old.core)) (world_of B.areas self.old) }
+    fn note(&mut self, scope: Scope, event: u8, response: Response)
+        ensures { world_of B.areas self.new ≡ with_core (logged scope event response (core_of self.old.core)) (world_of B.areas self.old) }
     {
         if response.log {
             self.core.log.note(Entry {
                 action: response.action,
-                partition,
+                scope,
                 event,
                 time: self.core.clock.time,
             });
@@ -46,11 +47,10 @@ impl<B: Board> System<B> {
     }
 
     /// What an action does to a partition.
-    fn act(&mut self, action: Action, q: u8)
-        requires { q < 8 }
-        ensures { gives (world_of B.areas self.new) (reply_of (Responded action)) ≡ settled q (carried action q (core_of self.old.core)) (world_of B.areas self.old) }
+    fn act(&mut self, action: Action, q: Guest)
+        ensures { gives (world_of B.areas self.new) (answer_reply (Responded action)) ≡ settled q (carried action q (core_of self.old.core)) (world_of B.areas self.old) }
     {
-        let i = usize::from(q);
+        let i = q.index();
         match action {
             Action::Ignore => {}
             Action::Signal => self.core.parts[i].signal(FAULT),
@@ -80,7 +80,7 @@ impl<B: Board> System<B> {
 
     /// What an action does to the system.
     fn act_whole(&mut self, action: Action)
-        ensures { gives (world_of B.areas self.new) (reply_of (Responded action)) ≡ settled 0 (system_carried self.old.core.tables action (core_of self.old.core)) (world_of B.areas self.old) }
+        ensures { gives (world_of B.areas self.new) (answer_reply (Responded action)) ≡ settled 0 (system_carried self.old.core.tables action (core_of self.old.core)) (world_of B.areas self.old) }
     {
         match action {
             Action::Ignore | Action::Signal | Action::Suspend => {}
@@ -97,108 +97,96 @@ impl<B: Board> System<B> {
     /// Carries a decision out: the log entry first, then the action.
     fn carry_out(&mut self, decision: Decision) -> Answer
         requires { Reaches decision.scope }
-        ensures { gives (world_of B.areas self.new) (reply_of result) ≡ settled (home decision.scope) (executed decision.scope decision self.old.core.tables (core_of self.old.core)) (world_of B.areas self.old) }
+        ensures { gives (world_of B.areas self.new) (answer_reply result) ≡ settled (home decision.scope) (executed decision.scope decision self.old.core.tables (core_of self.old.core)) (world_of B.areas self.old) }
     {
         let Decision {
             scope,
             event,
             response,
         } = decision;
+        self.note(scope, event, response);
         match scope {
-            Scope::Guest(q) => {
-                self.note(q, event, response);
-                self.act(response.action, q);
-            }
-            Scope::Whole => {
-                self.note(SYSTEM, event, response);
-                self.act_whole(response.action);
-            }
+            Scope::Partition(q) => self.act(response.action, Guest::new(q)),
+            Scope::System => self.act_whole(response.action),
         }
         Answer::Responded(response.action)
     }
 
     /// A load or store outside the area is a fault of its guest.
-    pub(crate) fn stray(&mut self, q: u8) -> Answer
-        requires { q < 8 }
+    pub(crate) fn stray(&mut self, q: Guest) -> Outcome
         ensures { gives (world_of B.areas self.new) (reply_of result) ≡ settled q (strayed self.old.core.tables (core_of self.old.core) q) (world_of B.areas self.old) }
     {
-        let decision = decide(&self.core.tables, q, MEM_PROTECTION);
+        let decision = decide(
+            &self.core.tables,
+            Scope::Partition(q.number()),
+            MEM_PROTECTION,
+        );
         let _ = self.carry_out(decision);
-        Answer::Outside
+        Ok(Answer::Outside)
     }
 
-    pub(crate) fn fault(&mut self, q: u8, event: u8) -> Answer
-        requires { q < 8 }
+    pub(crate) fn fault(&mut self, q: Guest, event: u8) -> Outcome
         ensures { gives (world_of B.areas self.new) (reply_of result) ≡ settled q (fault self.old.core.tables (core_of self.old.core) q event) (world_of B.areas self.old) }
     {
         if event > 6 {
-            return Answer::Refused(Refusal::InvalidParam);
+            return Err(Refusal::InvalidParam);
         }
-        let decision = decide(&self.core.tables, q, event);
-        self.carry_out(decision)
+        let decision = decide(&self.core.tables, Scope::Partition(q.number()), event);
+        Ok(self.carry_out(decision))
     }
 
-    pub(crate) fn system_fault(&mut self, event: u8) -> Answer
+    pub(crate) fn system_fault(&mut self, event: u8) -> Outcome
         ensures { gives (world_of B.areas self.new) (reply_of result) ≡ settled 0 (system_fault self.old.core.tables (core_of self.old.core) event) (world_of B.areas self.old) }
     {
         if event < 8 || event > 11 {
-            return Answer::Refused(Refusal::InvalidParam);
+            return Err(Refusal::InvalidParam);
         }
-        let decision = decide_whole(&self.core.tables, event);
-        self.carry_out(decision)
+        let decision = decide(&self.core.tables, Scope::System, event);
+        Ok(self.carry_out(decision))
     }
 
-    pub(crate) fn raise_partition_error(&mut self, q: u8, args: Args) -> Answer
-        requires { q < 8 }
+    pub(crate) fn raise_partition_error(&mut self, q: Guest, args: Args) -> Outcome
         ensures { gives (world_of B.areas self.new) (reply_of result) ≡ performed raise_partition_error q args (world_of B.areas self.old) }
     {
-        let decision = decide(&self.core.tables, q, PARTITION_ERROR);
-        self.carry_out(decision)
+        let decision = decide(
+            &self.core.tables,
+            Scope::Partition(q.number()),
+            PARTITION_ERROR,
+        );
+        Ok(self.carry_out(decision))
     }
 
-    pub(crate) fn read_log(&mut self, q: u8, args: Args) -> Answer
-        requires { q < 8 }
+    pub(crate) fn read_log(&mut self, q: Guest, args: Args) -> Outcome
         ensures { gives (world_of B.areas self.new) (reply_of result) ≡ performed read_log q args (world_of B.areas self.old) }
     {
-        if !is_system(&self.core.tables, q) {
-            return Answer::Refused(Refusal::PermError);
-        }
-        let Some(entry) = self.core.log.take() else {
-            return Answer::Refused(Refusal::NotAvailable);
-        };
-        Answer::Logged {
+        self.only_system(q)?;
+        let entry = self.core.log.take().ok_or(Refusal::NotAvailable)?;
+        Ok(Answer::Logged {
             left: self.core.log.count(),
             entry,
-        }
+        })
     }
 
-    pub(crate) fn reset_system(&mut self, q: u8, args: Args) -> Answer
-        requires { q < 8 }
+    pub(crate) fn reset_system(&mut self, q: Guest, args: Args) -> Outcome
         ensures { gives (world_of B.areas self.new) (reply_of result) ≡ performed reset_system q args (world_of B.areas self.old) }
     {
         if args[0] > 1 {
-            return Answer::Refused(Refusal::InvalidParam);
+            return Err(Refusal::InvalidParam);
         }
-        if !is_system(&self.core.tables, q) {
-            return Answer::Refused(Refusal::PermError);
-        }
+        self.only_system(q)?;
         self.restart();
         if args[0] == 1 {
             self.core.log.clear();
             wipe_all(&mut self.board, self.core.tables.partitions.count);
-            return Answer::Done;
         }
-        Answer::Done
+        Ok(Answer::Done)
     }
 
-    pub(crate) fn halt_system(&mut self, q: u8, args: Args) -> Answer
-        requires { q < 8 }
+    pub(crate) fn halt_system(&mut self, q: Guest, args: Args) -> Outcome
         ensures { gives (world_of B.areas self.new) (reply_of result) ≡ performed halt_system q args (world_of B.areas self.old) }
     {
-        if !is_system(&self.core.tables, q) {
-            return Answer::Refused(Refusal::PermError);
-        }
+        self.only_system(q)?;
         self.core.halted = true;
-        Answer::Done
+        Ok(Answer::Done)
     }
 }

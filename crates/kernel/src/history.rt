@@ -16,8 +16,8 @@ fn play<B: Board>(vector: Checked, board: B, history: &mut [Exchange]) -> System
     ensures { Ran (tables_of vector.entry.bytes.now) (B.areas board) (events_of history.old) (lines_of history.new) (world_of B.areas result) }
 {
     let mut system = System::boot(vector, board);
-    for i in 0..history.len() {
-        history[i].answer = system.event(history[i].event);
+    for exchange in history.iter_mut() {
+        exchange.answer = system.event(exchange.event);
     }
     system
 }

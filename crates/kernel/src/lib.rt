@@ -2,6 +2,7 @@
 #![tactic(auto)]
 
 mod areas;
+mod below;
 mod channels;
 mod copies;
 mod faults;
@@ -10,6 +11,7 @@ mod inner;
 mod interrupts;
 mod log;
 mod management;
+mod messages;
 mod monitor;
 mod ports;
 mod schedule;

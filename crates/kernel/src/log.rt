@@ -5,6 +5,7 @@ ghost use Rattle.queue.specs.Ring.{first, rest, over};
 use machine::log::Entry;
 use queue::Queue;
 use std::marker::Model;
+use vector::record::Scope;
 use vector::tables::Action;
 
 #[derive(Drop)]
@@ -28,7 +29,7 @@ impl Log {
     {
         let blank = Entry {
             action: Action::Ignore,
-            partition: 0,
+            scope: Scope::System,
             event: 0,
             time: 0,
         };

@@ -20,8 +20,7 @@ pub(crate) fn holder(plan: &Plan, offset: Time) -> Option<u8>
     requires { plan.now.slots.count ≤ 16 }
     ensures { result ≡ holder (slots_of plan.now) offset }
 {
-    for i in 0..plan.slots.count {
-        let slot = &plan.slots.rows[i];
+    for slot in plan.slots.as_slice() {
         if is_covering(slot, offset) {
             return Some(slot.partition);
         }
@@ -37,8 +36,7 @@ pub(crate) fn slotless(plan: &Plan) -> Time
 {
     let mut end: Time = 0;
     let mut sum: Time = 0;
-    for i in 0..plan.slots.count {
-        let slot = &plan.slots.rows[i];
+    for slot in plan.slots.as_slice() {
         sum += slot.start.saturating_sub(end);
         end = slot.start + slot.duration;
     }

@@ -1,5 +1,5 @@
 // What each event does.
-ghost use Rattle.std.specs.Prelude.{◌≡◌, ℕ, ◌<◌, ◌≤◌, true, IfSome, if◌then◌else◌, Some, None};
+ghost use Rattle.std.specs.Prelude.{◌≡◌, ℕ, ◌<◌, ◌≤◌, true, IfOk, IfSome, if◌then◌else◌, Some, None};
 ghost use Rattle.board.specs.Areas.{loaded};
 ghost use Rattle.vector.specs.Reading.{tables as tables_of};
 ghost use Rattle.machine.specs.Answers.{reply_of};
@@ -11,9 +11,11 @@ ghost use Rattle.machine.specs.Calls.{perform as perform_of};
 ghost use Rattle.machine.specs.State.{area};
 ghost use Rattle.machine.specs.Step.{running, load, store, tick};
 ghost use Rattle.kernel.specs.Promises.{Apart, Planned, Unmoved};
+ghost use Rattle.kernel.specs.Targets.{on_processor};
 ghost use Rattle.kernel.specs.World.{core_of, world_of, gives, settled, performed, stepped, booted};
 
 use crate::areas::is_fitting;
+use crate::below::Guest;
 use crate::channels::Channels;
 use crate::inner::Core;
 use crate::log::Log;
@@ -21,41 +23,12 @@ use crate::schedule::holder;
 use crate::whole::System;
 use board::Board;
 use clock::pass;
-use lookup::circle;
-use machine::answer::{Answer, Refusal};
+use lookup::Directory;
+use machine::answer::{Answer, Outcome, Refusal};
 use machine::clock::{Clock, FARTHEST, Time};
 use machine::event::{Args, Event, Hypercall};
 use machine::partition::Partition;
 use vector::checked::Checked;
-
-/// The calls by their numbers.
-const CALLS: [Hypercall; 25] = [
-    Hypercall::GetTime,
-    Hypercall::GetPartitionStatus,
-    Hypercall::HaltPartition,
-    Hypercall::SuspendPartition,
-    Hypercall::ResumePartition,
-    Hypercall::ResetPartition,
-    Hypercall::IdleSelf,
-    Hypercall::SwitchPlan,
-    Hypercall::GetPlanStatus,
-    Hypercall::CreateSamplingPort,
-    Hypercall::WriteSamplingMessage,
-    Hypercall::ReadSamplingMessage,
-    Hypercall::CreateQueuingPort,
-    Hypercall::SendQueuingMessage,
-    Hypercall::ReceiveQueuingMessage,
-    Hypercall::GetQueuingStatus,
-    Hypercall::RaiseIpvi,
-    Hypercall::GetIrqs,
-    Hypercall::SetIrqMask,
-    Hypercall::ClearIrqMask,
-    Hypercall::ClearIrqPending,
-    Hypercall::RaisePartitionError,
-    Hypercall::ReadLog,
-    Hypercall::ResetSystem,
-    Hypercall::HaltSystem,
-];
 
 impl<B: Board> System<B> {
     /// Boots a checked vector on a board; on one that does not fit the system is halted.
@@ -81,48 +54,51 @@ impl<B: Board> System<B> {
         System { board, core }
     }
 
-    fn is_running(&self, q: u8) -> bool
-        ensures is { result ≡ running self.now.core.tables (core_of self.now.core) q }
-        ensures there { result ≡ true → q < 8 }
+    /// The partition of this number, if it is on the processor: it is there and READY, and its slot runs.
+    fn running(&self, q: u8) -> Result<Guest, Refusal>
+        ensures is { result ≡ on_processor self.now.core.tables (core_of self.now.core) q }
+        ensures runs { IfOk result (λ g. (g ≡ q) × (running self.now.core.tables (core_of self.now.core) q ≡ true)) }
     {
         if usize::from(q) >= self.core.tables.partitions.count {
-            return false;
+            return Err(Refusal::NotOnProcessor);
         }
         let clock = &self.core.clock;
         let plan = &self.core.tables.plans.rows[usize::from(clock.plan)];
-        match holder(plan, clock.time - clock.start) {
-            Some(p) => p == q && self.core.parts[usize::from(q)].is_ready(),
-            None => false,
+        let guest = Guest::new(q);
+        if holder(plan, clock.time - clock.start) == Some(q)
+            && self.core.parts[guest.index()].is_ready()
+        {
+            Ok(guest)
+        } else {
+            Err(Refusal::NotOnProcessor)
         }
     }
 
-    fn load(&mut self, q: u8, offset: u32) -> Answer
-        requires { q < 8 }
+    fn load(&mut self, q: Guest, offset: u32) -> Outcome
         ensures { gives (world_of B.areas self.new) (reply_of result) ≡ settled q (load self.old.core.tables (core_of self.old.core) (area (B.areas self.old.board) q) q offset) (world_of B.areas self.old) }
     {
-        match self.board.load(usize::from(q), offset as usize) {
-            Some(byte) => Answer::Byte(byte),
+        match self.board.load(q.index(), offset as usize) {
+            Some(byte) => Ok(Answer::Byte(byte)),
             None => self.stray(q),
         }
     }
 
-    fn store(&mut self, q: u8, offset: u32, byte: u8) -> Answer
-        requires { q < 8 }
+    fn store(&mut self, q: Guest, offset: u32, byte: u8) -> Outcome
         ensures { gives (world_of B.areas self.new) (reply_of result) ≡ settled q (store self.old.core.tables (core_of self.old.core) (area (B.areas self.old.board) q) q offset byte) (world_of B.areas self.old) }
     {
-        match self.board.store(usize::from(q), offset as usize, byte) {
-            Some(()) => Answer::Done,
+        match self.board.store(q.index(), offset as usize, byte) {
+            Some(()) => Ok(Answer::Done),
             None => self.stray(q),
         }
     }
 
     /// Goes on to the time t, which is not before now and not too far ahead.
-    fn tick(&mut self, t: Time) -> Answer
+    fn tick(&mut self, t: Time) -> Outcome
         ensures { gives (world_of B.areas self.new) (reply_of result) ≡ settled 0 (tick self.old.core.tables (core_of self.old.core) t) (world_of B.areas self.old) }
     {
         let time = self.core.clock.time;
         if t < time || t - time > FARTHEST {
-            return Answer::Refused(Refusal::OpNotAllowed);
+            return Err(Refusal::OpNotAllowed);
         }
         pass(
             &self.core.tables.plans,
@@ -130,11 +106,12 @@ impl<B: Board> System<B> {
             &mut self.core.parts,
             t,
         );
-        Answer::Done
+        Ok(Answer::Done)
     }
 
-    fn perform(&mut self, call: Hypercall, q: u8, args: Args) -> Answer
-        requires { q < 8 }
+    // Each call takes the caller and its five words, as the machine's calls do: nothing is known of the pair that a
+    // struct would keep. The match stays: a table of functions could not be handed out, and would hide the names.
+    fn perform(&mut self, call: Hypercall, q: Guest, args: Args) -> Outcome
         ensures { gives (world_of B.areas self.new) (reply_of result) ≡ performed (perform_of call) q args (world_of B.areas self.old) }
     {
         match call {
@@ -166,19 +143,15 @@ impl<B: Board> System<B> {
         }
     }
 
-    fn call(&mut self, q: u8, number: u8, args: Args) -> Answer
-        requires { q < 8 }
+    fn call(&mut self, q: Guest, number: u8, args: Args) -> Outcome
         ensures { gives (world_of B.areas self.new) (reply_of result) ≡ performed (called number) q args (world_of B.areas self.old) }
     {
-        if number >= 25 {
-            return Answer::Refused(Refusal::UnknownHypercall);
-        }
-        self.perform(CALLS[number as usize], q, args)
+        self.perform(Hypercall::try_from(number)?, q, args)
     }
 
     /// Takes one event. A refusal moves nothing, plans switch only where a frame ends or the system is reset, and an event of one
     /// partition leaves every other area as it was, save a system partition's cold reset.
-    pub fn event(&mut self, e: Event) -> Answer
+    pub fn event(&mut self, e: Event) -> Outcome
         ensures is { gives (world_of B.areas self.new) (reply_of result) ≡ stepped e (world_of B.areas self.old) }
         ensures unmoved { Unmoved (reply_of result) (world_of B.areas self.old) (world_of B.areas self.new) }
         ensures planned { Planned e (world_of B.areas self.old) (world_of B.areas self.new) }
@@ -192,7 +165,7 @@ impl<B: Board> System<B> {
         ensures is { result ≡ (if exists self.now.core.tables partition then Some (circle_of self.now.core.tables partition) else None) }
         ensures least { IfSome result (λ m. Circle self.now.core.tables partition (bit m)) }
     {
-        circle(&self.core.tables, partition)
+        Directory::of(&self.core.tables).circle(partition)
     }
 
     /// The byte at a place of a partition's area, for who looks at the board when the events are over; none outside the area.
@@ -203,11 +176,11 @@ impl<B: Board> System<B> {
     }
 
     /// Decides what an event does.
-    fn handle(&mut self, e: Event) -> Answer
+    fn handle(&mut self, e: Event) -> Outcome
         ensures { gives (world_of B.areas self.new) (reply_of result) ≡ stepped e (world_of B.areas self.old) }
     {
         if self.core.halted {
-            return Answer::Refused(Refusal::SystemHalted);
+            return Err(Refusal::SystemHalted);
         }
         match e {
             Event::Tick { time } => self.tick(time),
@@ -216,32 +189,24 @@ impl<B: Board> System<B> {
                 number,
                 args,
             } => {
-                if !self.is_running(partition) {
-                    return Answer::Refused(Refusal::NotOnProcessor);
-                }
-                self.call(partition, number, args)
+                let q = self.running(partition)?;
+                self.call(q, number, args)
             }
             Event::Load { partition, offset } => {
-                if !self.is_running(partition) {
-                    return Answer::Refused(Refusal::NotOnProcessor);
-                }
-                self.load(partition, offset)
+                let q = self.running(partition)?;
+                self.load(q, offset)
             }
             Event::Store {
                 partition,
                 offset,
                 byte,
             } => {
-                if !self.is_running(partition) {
-                    return Answer::Refused(Refusal::NotOnProcessor);
-                }
-                self.store(partition, offset, byte)
+                let q = self.running(partition)?;
+                self.store(q, offset, byte)
             }
             Event::Fault { partition, event } => {
-                if !self.is_running(partition) {
-                    return Answer::Refused(Refusal::NotOnProcessor);
-                }
-                self.fault(partition, event)
+                let q = self.running(partition)?;
+                self.fault(q, event)
             }
             Event::Line { line } => self.line(line),
             Event::SystemFault { event } => self.system_fault(event),

@@ -6,6 +6,7 @@ ghost use Rattle.queue.specs.Ring.{first, rest, pushed, over, next, spot};
 
 use std::marker::Model;
 
+// A ring of its own: std's VecDeque and the kit's circular buffers allocate, and the core has no heap.
 /// At most N entries: `count` of them lie in the cells from `head` on, round the end.
 #[derive(Clone, Drop)]
 pub struct Queue<X, const N: usize> {

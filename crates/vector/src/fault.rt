@@ -32,6 +32,7 @@ pub enum RelationFault {
     Misplaced { at: usize },
 }
 
+// Three layers and no reason beside a place: each layer passes its own faults up whole, by `?`.
 #[derive(Clone, Copy, Debug, PartialEq, Eq)]
 pub enum Refusal {
     Frame(FrameFault),

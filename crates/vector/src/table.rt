@@ -1,5 +1,5 @@
 // A table of rows of one type, in memory of a fixed size.
-ghost use Rattle.std.specs.Prelude.{◌≡◌, ◌+◌, ◌-◌, ◌<◌, ◌≤◌, take, replicate, slice_index_or, slice_set};
+ghost use Rattle.std.specs.Prelude.{◌≡◌, ◌+◌, ◌-◌, ◌<◌, ◌≤◌, length, take, replicate, slice_index_or, slice_set};
 
 // Memory is fixed, so a table is a count beside an array, and no Vec.
 /// A table of at most `N` rows; the first `count` of `rows` are there.
@@ -22,7 +22,8 @@ impl<T: Copy, const N: usize> Table<T, N> {
 
     /// The rows that are there.
     pub fn as_slice(&self) -> &[T]
-        ensures { result.now ≡ take self.now.count self.now.rows }
+        ensures is { result.now ≡ take self.now.count self.now.rows }
+        ensures all { self.now.count ≤ N → length result.now ≡ self.now.count }
     {
         &self.rows[..self.count.min(N)]
     }

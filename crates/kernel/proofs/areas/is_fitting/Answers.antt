@@ -1,5 +1,7 @@
-use Rattle.std.proofs.Common.{add-one, rules}
+use Rattle.std.proofs.Common.{◌<◌, ◌∙◌, ap, add-one, arith, rules}
+use Rattle.vector.specs.Blank.{row0}
 use Rattle.machine.specs.Step.{fits_below}
+use Rattle.kernel.proofs.Rows.{row}
 use Rattle.kernel.proofs.areas.is_fitting.Goals as goal
 
 pub loop-i-init : goal.loop-i-init
@@ -8,4 +10,12 @@ loop-i-init g c = search rules
 
 pub loop-i-preserved : goal.loop-i-preserved
 unfolding fits_below
-loop-i-preserved g c = rw add-one (search rules)
+loop-i-preserved g c =
+    let table = c.args.tables.now.partitions in
+    let n : c.loop-i.i < table.count = omega (arith, c.as_slice-row-items.ensures.all c.requires, c.loop-i-test.true) in
+    let e = row table.count table.rows _ c.as_slice-row-items.ensures.is c.loop-i.i row0 n in
+    rw add-one (search (rules, e))
+
+pub returns : goal.returns
+returns g c =
+    c.loop-i.invariant ∙ ap (fits_below c.args.tables.now (g.B.Board.areas c.args.board.now)) (omega (arith, c.as_slice-row-items.ensures.all c.requires))

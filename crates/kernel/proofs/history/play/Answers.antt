@@ -4,15 +4,15 @@ use Rattle.kernel.proofs.Going.{begun, onward, over}
 use Rattle.kernel.proofs.Keeping.{isolating, preserving, lawful}
 use Rattle.kernel.proofs.history.play.Goals as goal
 
-pub loop-i-init : goal.loop-i-init
-loop-i-init g c = begun _ _
+pub loop-exchange-init : goal.loop-exchange-init
+loop-exchange-init g c = begun _ _
 
-pub loop-i-preserved : goal.loop-i-preserved
-loop-i-preserved g c = onward _ _ _ _ _ _ _ _ (omega arith) c.event.ensures.is c.loop-i.invariant
+pub loop-exchange-preserved : goal.loop-exchange-preserved
+loop-exchange-preserved g c = onward _ _ _ _ _ _ _ _ (omega arith) c.event-exchange.ensures.is c.loop-exchange.invariant
 
 pub returns : goal.returns
 returns g c =
-    let z = over _ _ _ _ _ _ _ c.boot-system.ensures (omega arith) c.loop-i.invariant in
+    let z = over _ _ _ _ _ _ _ c.boot-system.ensures (omega arith) c.loop-exchange.invariant in
     record {
       ends = z.0;
       told = z.1;

@@ -4,8 +4,8 @@ use Rattle.machine.specs.Management.{gaps}
 use Rattle.kernel.proofs.schedule.slotless.Given as goal
 
 -- what is left of the frame gives the rest of the sum
-abbrev pub invariant-loop-i : goal.invariant-loop-i
-invariant-loop-i l =
-    (l.sum + gaps l.end (drop l.i (slots_of l.plan)) l.plan.frame ≡ gaps 0 (slots_of l.plan) l.plan.frame)
-    × (l.sum ≤ 1000000 * l.i)
+abbrev pub invariant-loop-slot : goal.invariant-loop-slot
+invariant-loop-slot l =
+    (l.sum + gaps l.end (drop l.slot-index l.slot-items) l.plan.frame ≡ gaps 0 (slots_of l.plan) l.plan.frame)
+    × (l.sum ≤ 1000000 * l.slot-index)
     × (l.end ≤ 1000000)

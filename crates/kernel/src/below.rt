@@ -1,0 +1,50 @@
+// Numbers below a bound: a partition's and a channel's.
+ghost use Rattle.std.specs.Prelude.{◌≡◌, ℕ, ◌<◌};
+
+use std::marker::Model;
+
+/// A number below N. Clauses see the number.
+#[derive(Clone, Copy)]
+pub struct Below<const N: usize> {
+    number: u8,
+}
+
+impl<const N: usize> Model for Below<N> {
+    ghost Value = { ℕ };
+
+    ghost view = { λ b. b.number };
+
+    ghost invariant = { λ b. b.number < N };
+
+    ghost inverse = { λ n. record { number = n } };
+}
+
+impl<const N: usize> Below<N> {
+    pub(crate) fn new(number: u8) -> Below<N>
+        requires { number < N }
+        ensures { result ≡ number }
+    {
+        Below { number }
+    }
+
+    pub(crate) fn number(self) -> u8
+        ensures is { result ≡ self.entry }
+        ensures below { result < N }
+    {
+        self.number
+    }
+
+    /// Its place in a table.
+    pub(crate) fn index(self) -> usize
+        ensures is { result ≡ self.entry }
+        ensures below { result < N }
+    {
+        usize::from(self.number)
+    }
+}
+
+/// The partition that an event comes from, or that a call is on.
+pub(crate) type Guest = Below<8>;
+
+/// The channel of a port.
+pub(crate) type ChannelNumber = Below<8>;
