@@ -1,6 +1,7 @@
 -- The script format: a 2-byte vector length, the vector, then event records to the end; numbers have their low byte first.
 use Rattle.std.specs.Prelude.{ℕ, zero, suc, ◌+◌, ◌*◌, Bool, cond, ◌&&◌, List, [], ◌∷◌, map, length, take, drop, Some, None, Option, Ok, ◌==◌, nat_le, slice_index}
 use Rattle.std.specs.Option.{option_map}
+use Rattle.vector.specs.Frames.{word16, Piece, front}
 use Rattle.machine.specs.declared.answer.Answer.TheVariants.{Done}
 use Rattle.machine.specs.declared.event.Exchange.{Exchange}
 use Rattle.machine.specs.declared.event.Event.{Event}
@@ -14,7 +15,7 @@ byte_at bs i = slice_index bs i
 
 -- the 2-byte number at place i
 abbrev pub short_at : List ℕ → ℕ → ℕ
-short_at bs i = byte_at bs i + byte_at bs (i + 1) * 256
+short_at bs i = word16 bs i
 
 -- the 4-byte number at place i
 abbrev pub long_at : List ℕ → ℕ → ℕ
@@ -73,9 +74,14 @@ part head bs = take (short_at bs 0) (drop head bs)
 abbrev pub beyond : ℕ → List ℕ → List ℕ
 beyond head bs = drop (head + short_at bs 0) bs
 
+-- the event of a record that is cut off, if there is one
+abbrev pub event_cut : Option (Piece ℕ) → Option Event
+event_cut None = None
+event_cut (Some p) = event_in (kind_of p.kind) p.body
+
 -- the event of the first record: a 2-byte body length, a 2-byte kind and the body
 abbrev pub first : List ℕ → Option Event
-first bs = cond (holds 4 bs) (event_in (kind_of (short_at bs 2)) (part 4 bs)) None
+first bs = event_cut (front bs)
 
 -- an event and those after it, if there are both
 abbrev pub followed : Option Event → Option (List Event) → Option (List Event)

@@ -2,10 +2,10 @@
 use Rattle.std.specs.Prelude.{◌≡◌, ℕ, true, false, List, Some, None, Ok, Err, vec_items, Option, Result, Vec}
 use Rattle.std.specs.declared.alloc.Global.{Global}
 use Rattle.machine.specs.declared.event.Exchange.{Exchange}
-use Rattle.script.specs.Format.{holds, part, beyond, first, opens, vector_of, records_of, history_of, saying, said}
+use Rattle.script.specs.Format.{beyond, first, opens, vector_of, records_of, history_of, saying, said}
 use Rattle.script.specs.declared.Script.{Script}
 use Rattle.script.specs.declared.record.Cut.{Cut}
-use Rattle.script.specs.declared.part.Parts.{Parts}
+use Rattle.script.specs.declared.opening.Opening.{Opening}
 use Rattle.script.specs.declared.error.ScriptError.{ScriptError}
 use Rattle.script.specs.declared.error.ScriptError.TheVariants.{Malformed, OutOfMemory}
 
@@ -14,15 +14,10 @@ abbrev pub Splits : List ℕ → Option Cut → Type 0
 Splits bs None = first bs ≡ None
 Splits bs (Some c) = (first bs ≡ Some c.event) × (c.rest.now ≡ beyond 4 bs)
 
--- the part after a head is cut off, and what comes after it is the rest
-abbrev pub Cuts : ℕ → List ℕ → Option Parts → Type 0
-Cuts head bs None = holds head bs ≡ false
-Cuts head bs (Some p) = (holds head bs ≡ true) × (p.part.now ≡ part head bs) × (p.rest.now ≡ beyond head bs)
-
 -- a script falls into its vector and its records
-abbrev pub Divides : List ℕ → Option Parts → Type 0
+abbrev pub Divides : List ℕ → Option Opening → Type 0
 Divides bs None = opens bs ≡ false
-Divides bs (Some p) = (opens bs ≡ true) × (p.part.now ≡ vector_of bs) × (p.rest.now ≡ records_of bs)
+Divides bs (Some o) = (opens bs ≡ true) × (o.vector.now ≡ vector_of bs) × (o.records.now ≡ records_of bs)
 
 -- the records are read as they say, and malformed where they say nothing; no memory says nothing
 abbrev pub Lists : List ℕ → Result (Vec Exchange Global) ScriptError → Type 0

@@ -3,10 +3,13 @@ ghost use Rattle.std.specs.Prelude.{◌≡◌};
 ghost use Rattle.script.specs.declared.error.ScriptError.TheVariants.{OutOfMemory};
 
 use std::alloc::AllocFailed;
+use thiserror::Error;
 
-#[derive(Clone, Copy, Debug, PartialEq, Eq)]
+#[derive(Clone, Copy, Debug, PartialEq, Eq, Error)]
 pub enum ScriptError {
+    #[error("bad")]
     Malformed,
+    #[error("no memory for the script")]
     OutOfMemory,
 }
 

@@ -13,6 +13,7 @@ pub(crate) fn read_history(heap: Global, records: &[u8]) -> Result<Vec<Exchange>
 {
     let mut history = Vec::new(heap);
     let mut rest = records;
+    // Records differ in length: each is cut off the front of what is left, and no index is counted.
     while !rest.is_empty() {
         let cut = next_event(rest).ok_or(ScriptError::Malformed)?;
         history.push(Exchange {

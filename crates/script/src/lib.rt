@@ -15,7 +15,6 @@ pub(crate) mod history;
 pub(crate) mod kind;
 pub mod line;
 pub(crate) mod opening;
-pub(crate) mod part;
 pub(crate) mod record;
 #[cfg(test)]
 mod tests;
@@ -34,9 +33,9 @@ pub fn read_script<'a>(heap: Global, bytes: &'a [u8]) -> Result<Script<'a>, Scri
     ensures { Reads bytes.now result }
 {
     let opening = divide(bytes).ok_or(ScriptError::Malformed)?;
-    let history = read_history(heap, opening.rest)?;
+    let history = read_history(heap, opening.records)?;
     Ok(Script {
-        vector: opening.part,
+        vector: opening.vector,
         history,
     })
 }

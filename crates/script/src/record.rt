@@ -1,10 +1,10 @@
-// An event record: a 2-byte body length, a 2-byte kind and the body.
+// An event record: a vector's record of a kind of its own, with a body of that kind's length.
 ghost use Rattle.script.specs.Reading.{Splits};
 
 use crate::body::read_body;
 use crate::kind::EventKind;
-use crate::part::cut_part;
 use machine::event::Event;
+use vector::frame::front;
 
 /// The event of the first record, and the bytes after that record.
 #[derive(Clone, Copy, Debug, PartialEq, Eq)]
@@ -13,20 +13,17 @@ pub struct Cut<'a> {
     pub rest: &'a [u8],
 }
 
-/// Cuts the first record off; None where it is malformed.
+/// Cuts the first record off; None where it is malformed: there is no other way to fail, and the caller names that error.
 pub fn next_event<'a>(bytes: &'a [u8]) -> Option<Cut<'a>>
     ensures { Splits bytes.now result }
 {
-    let [_, _, k0, k1, ..] = bytes else {
-        return None;
-    };
-    let record = cut_part(bytes, 4)?;
-    let kind = EventKind::try_from(u16::from_le_bytes([*k0, *k1])).ok()?;
-    if record.part.len() != kind.body_length() {
+    let record = front(bytes)?;
+    let kind = EventKind::try_from(record.kind).ok()?;
+    if record.body.len() != kind.body_length() {
         return None;
     }
     Some(Cut {
-        event: read_body(kind, record.part),
+        event: read_body(kind, record.body),
         rest: record.rest,
     })
 }
