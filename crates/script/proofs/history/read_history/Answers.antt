@@ -4,9 +4,6 @@ use Rattle.script.specs.declared.error.ScriptError.TheVariants.{Malformed}
 use Rattle.script.proofs.Records.{joined-none, at_end, malformed, next, shorter}
 use Rattle.script.proofs.history.read_history.Goals as goal
 
-pub loop-rest-init : goal.loop-rest-init
-loop-rest-init c = rw c.new-history.ensures.items (joined-none _)
-
 pub returns-in_err-cut : goal.returns-in_err-cut
 returns-in_err-cut c =
     let some : 0 < length c.loop-rest.rest.now = omega (arith, false-eqb _ 0 c.loop-rest-test.ensures) in
@@ -22,13 +19,6 @@ loop-rest-preserved c =
     let is : c.next_event.result ≡ Some c.in_ok-cut.cut = grind arith in
     let cut = rw is at c.next_event.ensures in
     rw c.in_ok-push.ensures.items (next (vec_items c.loop-rest.history) _ _ _ some cut.0 cut.1 ∙ c.loop-rest.invariant)
-
-pub loop-rest-smaller : goal.loop-rest-smaller
-loop-rest-smaller c =
-    let some : 0 < length c.loop-rest.rest.now = omega (arith, false-eqb _ 0 c.loop-rest-test.ensures) in
-    let is : c.next_event.result ≡ Some c.in_ok-cut.cut = grind arith in
-    let cut = rw is at c.next_event.ensures in
-    shorter _ _ some cut.1
 
 pub returns : goal.returns
 returns c = sym c.loop-rest.invariant ∙ at_end _ _ (true-eqb _ 0 c.loop-rest-test.ensures)
