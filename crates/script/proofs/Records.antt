@@ -1,5 +1,5 @@
 -- The records one by one: what is read so far, and what the bytes that are left say.
-use Rattle.std.proofs.Common.{◌≡◌, ℕ, zero, suc, ◌+◌, ◌<◌, List, [], ◌∷◌, ◌++◌, map, length, drop, Some, None, Option, sym, refl, ap, ◌∙◌, append_assoc, append-nil, arith, length-drop}
+use Rattle.std.proofs.Common.{◌≡◌, ℕ, zero, suc, ◌+◌, List, [], ◌∷◌, ◌++◌, map, length, drop, Some, None, Option, sym, refl, ap, ◌∙◌, append_assoc, append-nil, arith, nat_eq, true, false, true-eqb, false-eqb}
 use Rattle.std.specs.Option.{option_map}
 use Rattle.machine.specs.declared.event.Event.{Event}
 use Rattle.machine.specs.declared.event.Exchange.{Exchange}
@@ -9,10 +9,6 @@ use Rattle.script.specs.Format.{short_at, beyond, first, followed, events_after,
 abbrev pub joined : List Exchange → Option (List Exchange) → Option (List Exchange)
 joined xs None = None
 joined xs (Some ys) = Some (xs ++ ys)
-
-pub joined-none : (o : Option (List Exchange)) → joined [] o ≡ o
-joined-none None = refl
-joined-none (Some ys) = refl
 
 joined-one : (xs : List Exchange) (x : Exchange) (o : Option (List Exchange)) → joined (xs ++ x ∷ []) o ≡ joined xs (joined (x ∷ []) o)
 joined-one xs x None = refl
@@ -24,32 +20,29 @@ skipped zero bs = refl
 skipped (suc k) [] = refl
 skipped (suc k) (b ∷ bs) = skipped k bs
 
-drop_more : (n b : ℕ) (bs : List ℕ) → drop (3 + n) bs ≡ drop (4 + n) (b ∷ bs)
+pub drop_more : (n b : ℕ) (bs : List ℕ) → drop (3 + n) bs ≡ drop (4 + n) (b ∷ bs)
 drop_more n b bs = let e : suc (3 + n) ≡ 4 + n = omega arith in ap (λ k. drop k (b ∷ bs)) e
 
 -- a record, and those after it
-record_then : (bs : List ℕ) → 0 < length bs → events_of bs ≡ followed (first bs) (events_of (beyond 4 bs))
+record_then : (bs : List ℕ) → false ≡ nat_eq (length bs) 0 → events_of bs ≡ followed (first bs) (events_of (beyond 4 bs))
 unfolding events_after
-record_then [] h = absurd (omega arith)
+record_then [] h = absurd (omega (arith, false-eqb 0 0 h))
 record_then (b ∷ bs) h =
     let n = short_at (b ∷ bs) 0 in
     ap (followed (first (b ∷ bs))) (skipped (3 + n) bs ∙ ap events_of (drop_more n b bs))
 
-pub at_end : (xs : List Exchange) (bs : List ℕ) → length bs ≡ 0 → joined xs (history_of bs) ≡ Some xs
+pub at_end : (xs : List Exchange) (bs : List ℕ) → true ≡ nat_eq (length bs) 0 → joined xs (history_of bs) ≡ Some xs
 unfolding events_after
 at_end xs [] h = ap Some (append-nil xs)
-at_end xs (b ∷ bs) h = absurd (omega arith)
+at_end xs (b ∷ bs) h = absurd (omega (arith, true-eqb (length (b ∷ bs)) 0 h))
 
-pub malformed : (xs : List Exchange) (bs : List ℕ) → 0 < length bs → first bs ≡ None → joined xs (history_of bs) ≡ None
+pub malformed : (xs : List Exchange) (bs : List ℕ) → false ≡ nat_eq (length bs) 0 → first bs ≡ None → joined xs (history_of bs) ≡ None
 malformed xs bs h e = rw (record_then bs h, e)
 
 taken : (e : Event) (o : Option (List Event)) → option_map (map unanswered) (followed (Some e) o) ≡ joined (unanswered e ∷ []) (option_map (map unanswered) o)
 taken e None = refl
 taken e (Some es) = refl
 
-pub next : (xs : List Exchange) (e : Event) (bs rest : List ℕ) → 0 < length bs → first bs ≡ Some e → rest ≡ beyond 4 bs → joined (xs ++ unanswered e ∷ []) (history_of rest) ≡ joined xs (history_of bs)
+pub next : (xs : List Exchange) (e : Event) (bs rest : List ℕ) → false ≡ nat_eq (length bs) 0 → first bs ≡ Some e → rest ≡ beyond 4 bs → joined (xs ++ unanswered e ∷ []) (history_of rest) ≡ joined xs (history_of bs)
 next xs e bs rest h f r =
     joined-one xs (unanswered e) (history_of rest) ∙ ap (joined xs) (sym (rw (record_then bs h, f, sym r) (taken e (events_of rest))))
-
-pub shorter : (bs rest : List ℕ) → 0 < length bs → rest ≡ beyond 4 bs → length rest < length bs
-shorter bs rest h r = omega (arith, ap length r, length-drop (4 + short_at bs 0) bs)
