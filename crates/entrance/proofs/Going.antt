@@ -1,5 +1,5 @@
 -- The records are answered one by one.
-use Rattle.std.proofs.Common.{◌≡◌, ℕ, suc, ◌+◌, ◌-◌, ◌*◌, ◌<◌, ◌≤◌, Bool, true, false, cond, ◌&&◌, List, [], ◌++◌, length, take, drop, Some, None, Option, sym, refl, ap, ◌∙◌, ap₂, arith, le-leb}
+use Rattle.std.proofs.Common.{◌≡◌, ℕ, suc, ◌+◌, ◌-◌, ◌*◌, ◌<◌, ◌≤◌, true, false, List, [], ◌++◌, length, take, drop, Some, None, Option, sym, ap, ◌∙◌, ap₂, arith, le-leb, nat_eq, true-eqb}
 use borrow.Author.Tests.{lt-leb}
 use Rattle.std.proofs.lemmas.List.{take_all, take-append-drop, nil_from_length}
 use Rattle.vector.specs.declared.tables.Tables.{Tables}
@@ -11,7 +11,7 @@ use Rattle.machine.specs.Runs.{after, lines}
 use Rattle.kernel.specs.World.{World, Moved, gives, stepped}
 use Rattle.script.specs.Format.{first, beyond}
 use Rattle.entrance.specs.Encoding.{bytes_of, encoded, laid, put}
-use Rattle.entrance.specs.Session.{Read, before, read_after, read_of, room_in, count_of, taken, written, reached}
+use Rattle.entrance.specs.Session.{Read, before, read_after, read_of, room_in, Ending, answered, answered, malformed, full, records_end, taken, written, reached}
 use Rattle.entrance.proofs.Putting.{put_on}
 use Rattle.entrance.proofs.Reading.{read-then}
 
@@ -28,12 +28,8 @@ pub record Underway (z : World) (records old : List ℕ) (w : World) (rest new :
   pub bytes : take (12 * count) new ++ laid (told z.tables w.state (take (room_in old - count) (read_of rest).events)) (drop (12 * count) new) ≡ written z (read_of records) old
   pub state : after z.tables w.state (take (room_in old - count) (read_of rest).events) ≡ after z.tables z.state (taken (read_of records) old)
 
-none_of : (b : Bool) (n : ℕ) → None ≡ cond (b && false) (Some n) None
-none_of true n = refl
-none_of false n = refl
-
 module _ (z : World) (records old : List ℕ) (w : World) (rest new : List ℕ) (count : ℕ) (u : Underway z records old w rest new count) where
-  pub onward : (v : World) (rest' new' : List ℕ) (e : Event) (r : Reply) → count < room_in old → 12 * count + 12 ≤ length new → 0 < length rest →
+  pub onward : (v : World) (rest' new' : List ℕ) (e : Event) (r : Reply) → count < room_in old → 12 * count + 12 ≤ length new → false ≡ nat_eq (length rest) 0 →
       first rest ≡ Some e → rest' ≡ beyond 4 rest → gives v r ≡ stepped e w → new' ≡ put (12 * count) (bytes_of r) new → Underway z records old v rest' new' (count + 1)
   unfolding encoded lines after
   onward v rest' new' e r h i l f b g p =
@@ -77,32 +73,34 @@ module _ (z : World) (records old : List ℕ) (w : World) (rest new : List ℕ) 
     ap₂ (λ (k : Tables) (x : State). record { tables = k; state = x }) u.tables (ap (after z.tables w.state) (sym e) ∙ u.state),
   )
 
-  -- an answer, the bytes and the world
-  abbrev pub Ends : Option ℕ → Type 0
-  Ends o = (o ≡ count_of (read_of records) (room_in old)) × (new ≡ written z (read_of records) old) × (w ≡ reached z (read_of records) old)
+  -- how the records end, the bytes and the world
+  abbrev pub Ends : Ending → Type 0
+  Ends e = (e ≡ records_end (read_of records) (room_in old)) × (new ≡ written z (read_of records) old) × (w ≡ reached z (read_of records) old)
 
-  pub over : length rest ≡ 0 → Ends (Some count)
+  pub over : true ≡ nat_eq (length rest) 0 → Ends (answered count)
   unfolding read_after
   over l =
-      let q : read_of rest ≡ record { events = []; whole = true } = ap read_of (nil_from_length rest l) in
+      let q : read_of rest ≡ record { events = []; whole = true } = ap read_of (nil_from_length rest (true-eqb (length rest) 0 l)) in
       let y : (read_of records).whole ≡ true = sym u.whole ∙ ap (λ (q : Read). q.whole) q in
       let n : length (read_of records).events ≡ count = omega (arith, ap (λ (q : Read). length q.events) q, u.counts) in
       let t = le-leb count (room_in old) u.fits in
       let b = stands (ap (λ (q : Read). take (room_in old - count) q.events) q ∙ take_all (room_in old - count) [] (omega arith)) in
       (rw (y, n, t), b.0, b.1)
 
-  pub malformed : 0 < length rest → first rest ≡ None → Ends None
-  malformed l f =
+  pub cut_short : false ≡ nat_eq (length rest) 0 → first rest ≡ None → Ends malformed
+  cut_short l f =
       let q : read_of rest ≡ record { events = []; whole = false } = read-then rest l ∙ ap (λ (o : Option Event). before o (read_of (beyond 4 rest))) f in
       let y : (read_of records).whole ≡ false = sym u.whole ∙ ap (λ (q : Read). q.whole) q in
+      let n : length (read_of records).events ≡ count = omega (arith, ap (λ (q : Read). length q.events) q, u.counts) in
+      let t = le-leb count (room_in old) u.fits in
       let b = stands (ap (λ (q : Read). take (room_in old - count) q.events) q ∙ take_all (room_in old - count) [] (omega arith)) in
-      (rw y, b.0, b.1)
+      (rw (y, n, t), b.0, b.1)
 
-  pub full : (e : Event) → 0 < length rest → first rest ≡ Some e → count ≡ room_in old → Ends None
-  full e l f h =
+  pub no_room : (e : Event) → false ≡ nat_eq (length rest) 0 → first rest ≡ Some e → count ≡ room_in old → Ends full
+  no_room e l f h =
       let q = read-then rest l ∙ ap (λ (o : Option Event). before o (read_of (beyond 4 rest))) f in
       let n : room_in old < length (read_of records).events = omega (arith, ap (λ (q : Read). length q.events) q, u.counts) in
       let t = lt-leb (length (read_of records).events) (room_in old) n in
       let m : room_in old - count ≡ 0 = omega arith in
       let b = stands (ap (λ (n : ℕ). take n (read_of rest).events) m) in
-      (rw t (none_of (read_of records).whole (length (read_of records).events)), b.0, b.1)
+      (rw t, b.0, b.1)

@@ -1,10 +1,15 @@
 -- What event records say, and what they are answered.
-use Rattle.std.specs.Prelude.{ℕ, zero, suc, ◌+◌, ◌/◌, Bool, true, false, cond, ◌&&◌, List, [], ◌∷◌, length, take, Some, None, Option, nat_le}
+use Rattle.std.specs.Prelude.{ℕ, zero, suc, ◌+◌, ◌/◌, Bool, true, false, cond, ◌&&◌, List, [], ◌∷◌, length, take, Some, None, Option, Ok, Err, Result, nat_le}
+use Rattle.vector.specs.Reading.{Verdict, taken as is_taken, refused as is_refused}
+use Rattle.vector.specs.Reasons.{reason}
+use Rattle.vector.specs.declared.fault.Layer.{Layer}
 use Rattle.machine.specs.declared.event.Event.{Event}
 use Rattle.machine.specs.Runs.{after, lines}
 use Rattle.kernel.specs.World.{World}
 use Rattle.script.specs.Format.{short_at, first}
 use Rattle.entrance.specs.Encoding.{encoded, laid}
+use Rattle.entrance.specs.declared.error.EntranceError.{EntranceError}
+use Rattle.entrance.specs.declared.error.EntranceError.TheVariants.{Vector, Malformed, NoRoom}
 
 -- the events before the first malformed record, and whether there is no such record
 pub record Read : Type 0 where
@@ -36,6 +41,29 @@ count_of r n = cond (r.whole && nat_le (length r.events) n) (Some (length r.even
 abbrev pub number_of : Option ℕ → ℕ
 number_of None = 18446744073709551615
 number_of (Some n) = n
+
+-- how a session ends: its events are answered, its vector is refused, a record is malformed, or one has no room for its answer
+pub data Ending : Type 0 where
+  answered : ℕ → Ending
+  refused : Layer → ℕ → ℕ → Ending
+  malformed : Ending
+  full : Ending
+
+-- what a result says
+abbrev pub ending_of : Result ℕ EntranceError → Ending
+ending_of (Ok n) = answered n
+ending_of (Err (Vector r)) = refused (reason r).layer (reason r).number (reason r).place
+ending_of (Err Malformed) = malformed
+ending_of (Err NoRoom) = full
+
+-- the answers run out of room, or the records end or are malformed before
+abbrev pub records_end : Read → ℕ → Ending
+records_end r n = cond (nat_le (length r.events) n) (cond r.whole (answered (length r.events)) malformed) full
+
+-- a vector that is refused ends its session before a record is looked at
+abbrev pub ending : Verdict → Read → ℕ → Ending
+ending is_taken r n = records_end r n
+ending (is_refused l k p) r n = refused l k p
 
 -- the events that are taken: those that there is room to answer
 abbrev pub taken : Read → List ℕ → List Event
