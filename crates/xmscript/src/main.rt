@@ -9,19 +9,17 @@ ghost use Rattle.machine.specs.Step.{boot as boot_of};
 ghost use Rattle.stage.specs.Layouts.{zeroed};
 ghost use Rattle.xmscript.specs.Words.{areas_of};
 
-use anyhow::anyhow;
 use board::Board;
 use kernel::{System, run};
 use machine::event::Exchange;
 use script::error::ScriptError;
-use script::line::Line;
+use script::line::{Line, Refused};
 use script::read_script;
 use stage::{fenced, paged};
 use std::env;
 use std::io::Read;
 use vector::check;
 use vector::checked::Checked;
-use vector::fault::Refusal;
 use vector::tables::Tables;
 
 /// No area is larger.
@@ -49,21 +47,17 @@ impl Wanted {
 
 /// The areas are wanted where the word `areas` is given.
 fn read_words(rt: &HostRuntime) -> anyhow::Result<Wanted> {
-    for word in env::args(rt)?.skip(1) {
-        if word.as_str() == "areas" {
-            return Ok(Wanted::Areas);
-        }
+    if env::args(rt)?.skip(1).any(|word| word.as_str() == "areas") {
+        Ok(Wanted::Areas)
+    } else {
+        Ok(Wanted::Answers)
     }
-    Ok(Wanted::Answers)
 }
 
 /// Prints the bytes of a partition's area.
 fn show_area<B: Board>(rt: &impl Print, system: &System<B>, i: u8) -> anyhow::Result<()> {
     print!(rt; "area {i} ")?;
-    for at in 0..LARGEST {
-        let Some(byte) = system.byte(i, at) else {
-            break;
-        };
+    for byte in (0..LARGEST).map_while(|at| system.byte(i, at)) {
         print!(rt; "{byte:02x}")?;
     }
     rt.println("")?;
@@ -110,28 +104,24 @@ fn play_each(
     play(rt, "paged", bytes, paged(&tables), history, shown)
 }
 
-fn show_refusal(rt: &impl Print, refusal: Refusal) -> anyhow::Result<()> {
-    let number = refusal.number();
-    let place = refusal.place();
-    println!(rt; "refused {number} {place}")?;
-    Ok(())
-}
-
 fn play_script(rt: &HostRuntime) -> anyhow::Result<()> {
     let wanted = read_words(rt)?;
     let mut input = Vec::new(rt.alloc());
     rt.stdin().read_to_end(&mut input)?;
     let mut script = match read_script(rt.alloc(), input.as_slice()) {
         Ok(script) => script,
-        Err(ScriptError::Malformed) => {
-            rt.println("bad")?;
+        Err(error @ ScriptError::Malformed) => {
+            rt.println(error)?;
             return Ok(());
         }
-        Err(ScriptError::OutOfMemory) => return Err(anyhow!("no memory for the script")),
+        Err(error @ ScriptError::OutOfMemory) => return Err(error.into()),
     };
     match check(script.vector) {
         Ok(()) => play_each(rt, script.vector, script.history.as_mut_slice(), wanted),
-        Err(refusal) => show_refusal(rt, refusal),
+        Err(refusal) => {
+            rt.println(Refused(refusal))?;
+            Ok(())
+        }
     }
 }
 
