@@ -2,7 +2,7 @@
 ghost use Rattle.std.specs.Prelude.{◌≡◌, ℕ, ◌+◌, ◌<◌, ◌≤◌, true, ◌&&◌, IfOk, length, slice_index, slice_index_or};
 ghost use Rattle.machine.specs.Answers.{reply_of};
 ghost use Rattle.machine.specs.Partitions.{nobody, is_open};
-ghost use Rattle.machine.specs.Ports.{agrees, deepens, create_sampling_port, create_queuing_port};
+ghost use Rattle.machine.specs.Ports.{agrees, deepens};
 ghost use Rattle.machine.specs.Ports.{create as create_of};
 ghost use Rattle.machine.specs.Ports.{usable as usable_of};
 ghost use Rattle.machine.specs.Ports.{sendable as sendable_of};
@@ -107,7 +107,8 @@ impl<B: Board> System<B> {
         }
     }
 
-    fn create(&mut self, kind: ChannelKind, q: Guest, args: Args) -> Outcome
+    /// Opens the port of q that has this type and the name in a range of its area.
+    pub(crate) fn create(&mut self, kind: ChannelKind, q: Guest, args: Args) -> Outcome
         ensures { gives (world_of B.areas self.new) (reply_of result) ≡ performed (create_of kind) q args (world_of B.areas self.old) }
     {
         if !is_ranged(&self.board, q.index(), args[0], args[1]) || args[1] > 16 || args[3] > 1 {
@@ -126,17 +127,5 @@ impl<B: Board> System<B> {
         }
         self.core.parts[q.index()].open(i);
         Ok(Answer::Port(i))
-    }
-
-    pub(crate) fn create_sampling_port(&mut self, q: Guest, args: Args) -> Outcome
-        ensures { gives (world_of B.areas self.new) (reply_of result) ≡ performed create_sampling_port q args (world_of B.areas self.old) }
-    {
-        self.create(ChannelKind::Sampling, q, args)
-    }
-
-    pub(crate) fn create_queuing_port(&mut self, q: Guest, args: Args) -> Outcome
-        ensures { gives (world_of B.areas self.new) (reply_of result) ≡ performed create_queuing_port q args (world_of B.areas self.old) }
-    {
-        self.create(ChannelKind::Queuing, q, args)
     }
 }

@@ -29,6 +29,7 @@ use machine::clock::{Clock, FARTHEST, Time};
 use machine::event::{Args, Event, Hypercall};
 use machine::partition::Partition;
 use vector::checked::Checked;
+use vector::tables::ChannelKind;
 
 impl<B: Board> System<B> {
     /// Boots a checked vector on a board; on one that does not fit the system is halted.
@@ -124,10 +125,10 @@ impl<B: Board> System<B> {
             Hypercall::IdleSelf => self.idle_self(q, args),
             Hypercall::SwitchPlan => self.switch_plan(q, args),
             Hypercall::GetPlanStatus => self.get_plan_status(q, args),
-            Hypercall::CreateSamplingPort => self.create_sampling_port(q, args),
+            Hypercall::CreateSamplingPort => self.create(ChannelKind::Sampling, q, args),
             Hypercall::WriteSamplingMessage => self.write_sampling_message(q, args),
             Hypercall::ReadSamplingMessage => self.read_sampling_message(q, args),
-            Hypercall::CreateQueuingPort => self.create_queuing_port(q, args),
+            Hypercall::CreateQueuingPort => self.create(ChannelKind::Queuing, q, args),
             Hypercall::SendQueuingMessage => self.send_queuing_message(q, args),
             Hypercall::ReceiveQueuingMessage => self.receive_queuing_message(q, args),
             Hypercall::GetQueuingStatus => self.get_queuing_status(q, args),
