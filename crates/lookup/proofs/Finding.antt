@@ -1,19 +1,10 @@
--- A port found from the last one down, and the owner of a line.
-use Rattle.std.proofs.Common.{◌≡◌, ℕ, zero, suc, ◌-◌, ◌<◌, ◌≤◌, Bool, true, false, ◌&&◌, List, get_or, IfSome, Some, None, Option, refl, subst, arith}
+-- A port found from the last one down.
+use Rattle.std.proofs.Common.{◌≡◌, ℕ, zero, suc, ◌-◌, ◌<◌, ◌≤◌, Bool, true, false, ◌&&◌, Some, None, refl, subst, arith}
 use Rattle.vector.specs.Names.{same_name}
 use Rattle.vector.specs.declared.tables.Name.{Name}
 use Rattle.vector.specs.declared.tables.Tables.{Tables}
 use Rattle.vector.specs.declared.tables.ChannelKind.{ChannelKind}
 use Rattle.machine.specs.Questions.{owns, port, named}
-use Rattle.lookup.specs.Bounds.{Lined}
-
-abbrev pub Below : ℕ → Option ℕ → Type 0
-Below n o = IfSome o (λ i. i < n)
-
--- an owner of a line is a partition below 8
-pub owned : (ls : List (Option ℕ)) (i : ℕ) → Lined ls → (o : Option ℕ) → get_or ls i None ≡ o → Below 8 o
-owned ls i h None e = tt
-owned ls i h (Some q) e = h i q e
 
 -- is port i of q of this type and name
 abbrev pub Is : Tables → ℕ → ChannelKind → Name → ℕ → Bool

@@ -1,4 +1,4 @@
-use Rattle.std.proofs.Common.{◌<◌, ◌∙◌, ap, add-one, arith, rules}
+use Rattle.std.proofs.Common.{◌<◌, add-one, arith, rules}
 use Rattle.vector.specs.Blank.{row0}
 use Rattle.machine.specs.Step.{fits_below}
 use Rattle.kernel.proofs.Rows.{row}
@@ -15,7 +15,3 @@ loop-i-preserved g c =
     let n : c.loop-i.i < table.count = omega (arith, c.as_slice-row-items.ensures.all c.requires, c.loop-i-test.true) in
     let e = row table.count table.rows _ c.as_slice-row-items.ensures.is c.loop-i.i row0 n in
     rw add-one (search (rules, e))
-
-pub returns : goal.returns
-returns g c =
-    c.loop-i.invariant ∙ ap (fits_below c.args.tables.now (g.B.Board.areas c.args.board.now)) (omega (arith, c.as_slice-row-items.ensures.all c.requires))

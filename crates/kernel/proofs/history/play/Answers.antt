@@ -1,11 +1,8 @@
 use Rattle.std.proofs.Common.{arith}
 use Rattle.vector.proofs.Fairness.{takes-fair}
-use Rattle.kernel.proofs.Going.{begun, onward, over}
+use Rattle.kernel.proofs.Going.{onward, over}
 use Rattle.kernel.proofs.Keeping.{isolating, preserving, lawful}
 use Rattle.kernel.proofs.history.play.Goals as goal
-
-pub loop-exchange-init : goal.loop-exchange-init
-loop-exchange-init g c = begun _ _
 
 pub loop-exchange-preserved : goal.loop-exchange-preserved
 loop-exchange-preserved g c = onward _ _ _ _ _ _ _ _ (omega arith) c.event-exchange.ensures.is c.loop-exchange.invariant

@@ -1,4 +1,4 @@
-use Rattle.std.proofs.Common.{◌<◌, ◌∙◌, ap, add-one, arith, rules}
+use Rattle.std.proofs.Common.{◌<◌, add-one, arith, rules}
 use Rattle.vector.specs.Blank.{port0}
 use Rattle.machine.specs.Ports.{alerted}
 use Rattle.kernel.proofs.Rows.{row}
@@ -15,7 +15,3 @@ loop-i-preserved c =
     let n : c.loop-i.i < table.count = omega (arith, c.as_slice-port-items.ensures.all c.args.directory.now.ported, c.loop-i-test.true) in
     let e = row table.count table.rows _ c.as_slice-port-items.ensures.is c.loop-i.i port0 n in
     rw add-one (search (rules, e))
-
-pub returns : goal.returns
-returns c =
-    c.loop-i.invariant ∙ ap (λ n. alerted c.args.directory.now.tables.now c.args.c n c.args.parts.now) (omega (arith, c.as_slice-port-items.ensures.all c.args.directory.now.ported))

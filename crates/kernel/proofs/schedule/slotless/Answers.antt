@@ -2,12 +2,8 @@ use Rattle.std.proofs.Common.{◌+◌, ◌≤◌, ◌<◌, ◌∙◌, length, ge
 use Rattle.std.proofs.lemmas.List.{get_or-take, length-take}
 use Rattle.vector.specs.Blank.{slot0}
 use Rattle.vector.specs.declared.tables.Slot.{Slot}
-use Rattle.machine.specs.Management.{gaps}
 use Rattle.kernel.proofs.Gapping.{gaps_more, gaps_end}
 use Rattle.kernel.proofs.schedule.slotless.Goals as goal
-
-pub loop-slot-init : goal.loop-slot-init
-loop-slot-init c = (omega (arith, ap (λ ss. gaps 0 ss c.args.plan.now.frame) c.as_slice-slot-items.ensures.is), omega arith, omega arith)
 
 -- the slot of this turn ends within the frame
 ends : (c : goal.After-saturating_sub-sum) → (get_or c.as_slice-slot-items.result.now c.loop-slot.slot-index slot0).start + (get_or c.as_slice-slot-items.result.now c.loop-slot.slot-index slot0).duration ≤ 1000000
@@ -18,11 +14,6 @@ ends c =
     let n : i < table.count = omega (arith, length-take table.count table.rows, ap length e, c.loop-slot-test.true) in
     let s = ap (λ ss. get_or ss i slot0) e ∙ get_or-take table.count table.rows i slot0 n in
     omega (arith, c.requires.within i n, c.requires.sound.1, ap (λ (x : Slot). x.start) s, ap (λ (x : Slot). x.duration) s)
-
-pub overflow_add-sum : goal.overflow_add-sum
-overflow_add-sum c =
-    let e = c.as_slice-slot-items.ensures.is in
-    omega (arith, ends c, c.loop-slot.invariant.1, c.requires.sound.2, c.saturating_sub-sum.ensures, length-take c.args.plan.now.slots.count c.args.plan.now.slots.rows, ap length e, c.loop-slot-test.true)
 
 pub loop-slot-preserved : goal.loop-slot-preserved
 loop-slot-preserved c =
