@@ -1,14 +1,11 @@
 // An entry of the health monitor's log.
 ghost use Rattle.std.specs.Prelude.{◌≡◌};
-ghost use Rattle.vector.specs.Encoding.{scope_number};
 ghost use Rattle.machine.specs.Answers.{packed};
 
 use crate::clock::Time;
+pub use vector::record::SYSTEM;
 use vector::record::Scope;
 use vector::tables::Action;
-
-/// The partition number that stands for the system.
-pub const SYSTEM: u8 = 255;
 
 /// A fault event of a partition or of the system, and the action that was taken.
 #[derive(Clone, Copy, Debug, PartialEq, Eq)]
@@ -24,18 +21,8 @@ impl Entry {
     pub(crate) fn packed(&self) -> u32
         ensures { result ≡ packed self.now }
     {
-        u32::from(scope_number(self.scope))
+        u32::from(u8::from(self.scope))
             + 256 * u32::from(self.event)
             + 65536 * u32::from(u8::from(self.action))
-    }
-}
-
-/// A partition's number, or the system's.
-fn scope_number(scope: Scope) -> u8
-    ensures { result ≡ scope_number scope }
-{
-    match scope {
-        Scope::Partition(partition) => partition,
-        Scope::System => SYSTEM,
     }
 }

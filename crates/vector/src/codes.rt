@@ -1,13 +1,13 @@
 // The numbers that stand for kinds of records and for values of fields.
 ghost use Rattle.std.specs.Prelude.{◌≡◌};
-ghost use Rattle.vector.specs.Encoding.{action_number};
+ghost use Rattle.vector.specs.Encoding.{action_number, scope_number};
 ghost use Rattle.vector.specs.Fields.{class_of, channel_kind_of, direction_number, any_action};
 ghost use Rattle.vector.specs.Frames.{kind_of};
 ghost use Rattle.vector.specs.Out.{Reads};
 ghost use Rattle.vector.specs.Reasons.{unknown_kind, out_of_range};
 
 use crate::fault::UnknownNumber;
-use crate::record::Kind;
+use crate::record::{Kind, SYSTEM, Scope};
 use crate::tables::{Action, ChannelKind, Class, Direction};
 
 impl TryFrom<u16> for Kind {
@@ -99,6 +99,17 @@ impl From<Action> for u8 {
             Action::Halt => 3,
             Action::WarmReset => 4,
             Action::ColdReset => 5,
+        }
+    }
+}
+
+impl From<Scope> for u8 {
+    ghost from_gives = { λ scope number. number ≡ scope_number scope };
+
+    fn from(scope: Scope) -> u8 {
+        match scope {
+            Scope::Partition(partition) => partition,
+            Scope::System => SYSTEM,
         }
     }
 }

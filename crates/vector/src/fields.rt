@@ -5,7 +5,7 @@ ghost use Rattle.vector.specs.Reasons.{field_reason, out_of_range};
 ghost use Rattle.vector.specs.Fields.{within, existing, deepest, directed, has_bit, masked, scope_of, event_of, action_of, flag_of};
 
 use crate::fault::{FieldFault, UnknownNumber};
-use crate::record::Scope;
+use crate::record::{SYSTEM, Scope};
 use crate::tables::{Action, ChannelKind, Direction};
 
 /// The value that a number stands for; a number that stands for nothing is refused at its place.
@@ -88,7 +88,7 @@ pub(crate) fn scope_by(number: u8, partitions: u8, at: usize) -> Result<Scope, F
     // Which numbers there are hangs on the number of partitions, so a conversion alone cannot tell.
     if number < partitions {
         Ok(Scope::Partition(number))
-    } else if number == 255 {
+    } else if number == SYSTEM {
         Ok(Scope::System)
     } else {
         Err(FieldFault::OutOfRange { at })

@@ -14,6 +14,9 @@ pub enum Kind {
     Action,
 }
 
+/// The number that stands for the system where a partition's could.
+pub const SYSTEM: u8 = 255;
+
 /// Whose fault events an action is for.
 #[derive(Clone, Copy, Debug, PartialEq, Eq)]
 pub enum Scope {
