@@ -1,4 +1,4 @@
-// Whole areas of a board.
+// Whole areas of a board. A board is asked by numbers of areas and bytes, so the loops of `wipe` and `wipe_all` are over ranges.
 ghost use Rattle.std.specs.Prelude.{◌≡◌, ◌≤◌};
 ghost use Rattle.machine.specs.State.{wiped, wiped_all};
 ghost use Rattle.machine.specs.Step.{fits};

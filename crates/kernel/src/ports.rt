@@ -29,6 +29,7 @@ fn is_agreeing(directory: &Directory, i: u8, kind: ChannelKind, args: &Args) -> 
     if args[2] != u32::from(channel.longest) || args[3] != u32::from(u8::from(port.direction)) {
         return false;
     }
+    // the kinds ask different things: no comparison would say it
     match kind {
         ChannelKind::Sampling => true,
         ChannelKind::Queuing => args[4] == u32::from(channel.depth),

@@ -7,7 +7,7 @@ ghost use Rattle.lookup.specs.Bounds.{Ported, Joined};
 
 use vector::tables::{ChannelKind, Name, Tables};
 
-/// Tables whose ports are known to be of partitions and channels that are there.
+/// Tables of at most 32 ports, each of a partition and a channel below 8.
 #[derive(Clone, Copy)]
 pub struct Directory<'a> {
     pub tables: &'a Tables,
@@ -16,6 +16,7 @@ pub struct Directory<'a> {
 }
 
 impl<'a> Directory<'a> {
+    /// The directory of tables whose ports are known to be so.
     pub fn of(tables: &'a Tables) -> Directory<'a>
         requires ported { Ported tables.now.ports }
         requires joined { Joined tables.now.ports }
@@ -49,6 +50,7 @@ impl<'a> Directory<'a> {
         ensures is { result ≡ named self.now.tables.now q kind name.now self.now.tables.now.ports.count }
         ensures there { IfSome result (λ i. i < self.now.tables.now.ports.count) }
     {
+        // a closure of `find` would not know that i is the number of a port
         for i in (0..self.tables.ports.count).rev() {
             if self.is_port(q, kind, name, i) {
                 return Some(i as u8);

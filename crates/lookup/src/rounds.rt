@@ -1,4 +1,5 @@
-// The circle of a partition, as a mask.
+// The circle of a partition, as a mask. The loops below go over numbers of ports, partitions and links: these are what the bodies
+// hand on and what a mask is made of, so the range is the iterator, and a fold would be no plainer.
 ghost use Rattle.std.specs.Prelude.{◌≡◌, ◌<◌, ◌≤◌, if◌then◌else◌, Some, None, IfSome};
 ghost use Rattle.machine.specs.Partitions.{bit};
 ghost use Rattle.machine.specs.Questions.{exists};

@@ -1,4 +1,4 @@
-// Why a script is not read.
+// Why a script is not read. The texts are what the program prints.
 ghost use Rattle.std.specs.Prelude.{◌≡◌};
 ghost use Rattle.script.specs.declared.error.ScriptError.TheVariants.{OutOfMemory};
 

@@ -1,4 +1,4 @@
-// An event record: a vector's record of a kind of its own, with a body of that kind's length.
+// An event record: framed as the records of a vector are, with a kind of its own and a body of that kind's length.
 ghost use Rattle.script.specs.Reading.{Splits};
 
 use crate::body::read_body;

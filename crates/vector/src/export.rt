@@ -1,4 +1,5 @@
-// The check for C, on a byte slice: a pointer and a length there.
+// The check for C, on a byte slice: a pointer and a length there. The crate of the archive has both again: an archive
+// exports its own crate's names.
 ghost use Rattle.std.specs.Prelude.{◌≡◌};
 ghost use Rattle.vector.specs.Reading.{verdict, number_in, place_in};
 

@@ -3,7 +3,7 @@
 ghost use Rattle.std.specs.Prelude.{◌≡◌};
 ghost use Rattle.vector.specs.declared.fault.Refusal.TheVariants.{Frame, Field, Relation};
 
-/// A number that stands for no kind, class or action.
+/// A number that stands for no case of what is read.
 #[derive(Clone, Copy, Debug, PartialEq, Eq)]
 pub struct UnknownNumber;
 
@@ -32,7 +32,7 @@ pub enum RelationFault {
     Misplaced { at: usize },
 }
 
-// Three layers and no reason beside a place: each layer passes its own faults up whole, by `?`.
+// Three types and not one reason with a place: each layer passes its own faults up whole, by `?`.
 #[derive(Clone, Copy, Debug, PartialEq, Eq)]
 pub enum Refusal {
     Frame(FrameFault),

@@ -6,6 +6,7 @@ use crate::event::Event;
 use crate::record::{Kind, Scope};
 use crate::tables::Tables;
 
+// Two arrays as in the tables: the events of a partition and of the system are numbered apart, and no row has both.
 /// Which events of each partition, and of the system from event 8 on, the vector has given an action.
 #[derive(Clone, Copy)]
 pub(crate) struct Given {

@@ -18,6 +18,7 @@ impl Kind {
         let Some(last) = last else {
             return matches!(self, Kind::Header);
         };
+        // each kind asks something else: no comparison would say it
         match self {
             Kind::Header => false,
             Kind::Partition => matches!(last, Kind::Header | Kind::Partition),

@@ -1,6 +1,8 @@
 //! The vector check for C: the archive of the two functions that `include/xm_vector.h` declares.
 #![tactic(auto)]
 
+// The functions of `vector::export` once more: an archive exports its own crate's names, and C needs them there.
+
 ghost use Rattle.std.specs.Prelude.{◌≡◌};
 ghost use Rattle.vector.specs.Reading.{verdict, number_in, place_in};
 
