@@ -5,12 +5,6 @@ use Rattle.vector.proofs.Cuts.{cut_off}
 use Rattle.vector.proofs.Heard.{heard-ready, heard-room}
 use Rattle.vector.proofs.reader.Records.next_record.Goals as goal
 
-pub hear-requires : goal.hear-requires
-hear-requires c =
-    let r = c.args.self.now in
-    let o = cut_off r.at r.rest.now (framed_of c.in_ok-cut.cut) (sym c.in_ok-cut.ensures) in
-    record { room = (r.promised, r.counted, r.ported); suited = o.suited; small = omega (arith, o.size) }
-
 pub join-requires : goal.join-requires
 join-requires c =
     let r = c.args.self.now in
