@@ -27,6 +27,7 @@ impl<L: Layout<N>, const N: usize> Laid<L, N> {
         ensures is { result ≡ found (L.places self.now.layout) (L.sizes self.now.layout) i at }
         ensures lies { Places (L.view self.now.layout) self.now.memory i at result }
     {
+        // a closure of `then` would not know that the area has this byte
         if at < self.layout.size(i) {
             Some(self.layout.place(i, at))
         } else {

@@ -13,7 +13,8 @@ use machine::partition::Partition;
 use std::ops::Range;
 use vector::tables::{Plan, Plans};
 
-// Plans, clock and partitions are three loans of one call: a struct of them would only be taken apart again below.
+// Plans, clock and partitions are three loans of one call: a struct of them would only be taken apart again below, and so are the
+// facts on them that the three functions ask for.
 /// Goes on to the time t at a stroke: what t - now microseconds come to, at a cost that does not grow with them.
 pub fn pass(plans: &Plans, clock: &mut Clock, parts: &mut [Partition; 8], t: Time)
     requires plans { SoundPlans plans.now }

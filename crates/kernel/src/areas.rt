@@ -24,6 +24,7 @@ pub(crate) fn wipe_all<B: Board>(board: &mut B, n: usize)
     }
 }
 
+// The bound on partitions is asked here too: tables are plain values.
 /// Whether each partition's area has the size that the vector gives.
 pub(crate) fn is_fitting<B: Board>(tables: &Tables, board: &B) -> bool
     requires { tables.now.partitions.count ≤ 8 }

@@ -1,4 +1,5 @@
-// Bytes from an area, and back into it.
+// Bytes from an area, and back into it. A range is a board, an area's number, an offset and a length, and that it lies in the area
+// is a fact of the board's bytes: a struct that keeps the fact would hold the loan of the board, once for reading and once for writing.
 ghost use Rattle.std.specs.Prelude.{◌≡◌, ℕ, ◌+◌, ◌^◌, ◌<◌, ◌≤◌, length, slice_set};
 ghost use Rattle.vector.specs.Names.{padded};
 ghost use Rattle.machine.specs.Letters.{letter_of};

@@ -16,7 +16,7 @@ use crate::whole::System;
 use board::Board;
 use machine::answer::{Answer, Outcome, Refusal};
 use machine::clock::Clock;
-use machine::event::Args;
+use machine::event::{Args, ResetMode};
 use machine::log::Entry;
 use machine::partition::Partition;
 use vector::record::Scope;
@@ -25,6 +25,7 @@ use vector::tables::{Action, Response};
 /// The bit that signals a fault.
 const FAULT: u32 = 1 << 9;
 
+// Fault events stay numbers: each is the row of its response.
 /// The event of a load or store outside the area.
 const MEM_PROTECTION: u8 = 6;
 
@@ -170,12 +171,10 @@ impl<B: Board> System<B> {
     pub(crate) fn reset_system(&mut self, q: Guest, args: Args) -> Outcome
         ensures { gives (world_of B.areas self.new) (reply_of result) ≡ performed reset_system q args (world_of B.areas self.old) }
     {
-        if args[0] > 1 {
-            return Err(Refusal::InvalidParam);
-        }
+        let mode = ResetMode::try_from(args[0])?;
         self.only_system(q)?;
         self.restart();
-        if args[0] == 1 {
+        if mode == ResetMode::Cold {
             self.core.log.clear();
             wipe_all(&mut self.board, self.core.tables.partitions.count);
         }

@@ -55,6 +55,7 @@ impl<B: Board> System<B> {
         Ok(Answer::Words { pending, mask })
     }
 
+    // the three calls below are one line each, with a method of their own
     pub(crate) fn set_irq_mask(&mut self, q: Guest, args: Args) -> Outcome
         ensures { gives (world_of B.areas self.new) (reply_of result) ≡ performed set_irq_mask q args (world_of B.areas self.old) }
     {

@@ -14,7 +14,7 @@ use board::Board;
 use lookup::{is_managing, is_system, is_there};
 use machine::answer::{Answer, Outcome, Refusal};
 use machine::clock::Time;
-use machine::event::Args;
+use machine::event::{Args, ResetMode};
 
 impl<B: Board> System<B> {
     /// The partition that a call of q is on: one that is there, and that q manages.
@@ -78,12 +78,10 @@ impl<B: Board> System<B> {
     pub(crate) fn reset_partition(&mut self, q: Guest, args: Args) -> Outcome
         ensures { gives (world_of B.areas self.new) (reply_of result) ≡ performed reset_partition q args (world_of B.areas self.old) }
     {
-        if args[1] > 1 {
-            return Err(Refusal::InvalidParam);
-        }
+        let mode = ResetMode::try_from(args[1])?;
         let target = self.target(q, args[0])?;
         self.core.parts[target.index()].reset();
-        if args[1] == 1 {
+        if mode == ResetMode::Cold {
             wipe(&mut self.board, target.index());
         }
         Ok(Answer::Done)

@@ -18,6 +18,7 @@ use vector::tables::ChannelKind;
 /// The bit that signals a message.
 const MESSAGE: u32 = 1 << 8;
 
+// the bound on the port is that of the partition's word
 /// Tells a partition of a message, where its port hears of it and is open.
 fn tell(partition: &mut Partition, port: u8, hearing: bool)
     requires { port < 32 }

@@ -37,6 +37,7 @@ fn is_agreeing(directory: &Directory, i: u8, kind: ChannelKind, args: &Args) -> 
 }
 
 impl<B: Board> System<B> {
+    // the bound on i is that of the partition's word
     /// Whether q has opened its port i.
     fn is_open(&self, q: Guest, i: u8) -> bool
         requires { i < 32 }
@@ -112,6 +113,7 @@ impl<B: Board> System<B> {
     pub(crate) fn create(&mut self, kind: ChannelKind, q: Guest, args: Args) -> Outcome
         ensures { gives (world_of B.areas self.new) (reply_of result) ≡ performed (create_of kind) q args (world_of B.areas self.old) }
     {
+        // the direction stays a number: it is only compared with the port's own
         if !is_ranged(&self.board, q.index(), args[0], args[1]) || args[1] > 16 || args[3] > 1 {
             return Err(Refusal::InvalidParam);
         }

@@ -1,5 +1,6 @@
-// The circle of a partition, as a mask. The loops below go over numbers of ports, partitions and links: these are what the bodies
-// hand on and what a mask is made of, so the range is the iterator, and a fold would be no plainer.
+// The circle of a partition, as a mask. The machine states it by numbers of ports, partitions and links, and each body below hands
+// its number on, so the range is the iterator, and a fold would be no plainer. That there are at most eight partitions is no field
+// of `Directory`: who only looks a port up need not know it. The bounds of 8 on a number are those of the shift or row that it goes to.
 ghost use Rattle.std.specs.Prelude.{◌≡◌, ◌<◌, ◌≤◌, if◌then◌else◌, Some, None, IfSome};
 ghost use Rattle.machine.specs.Partitions.{bit};
 ghost use Rattle.machine.specs.Questions.{exists};
@@ -120,6 +121,7 @@ impl<'a> Directory<'a> {
         ensures is { result ≡ (if exists self.now.tables.now partition then Some (circle_of self.now.tables.now partition) else None) }
         ensures least { IfSome result (λ m. Circle self.now.tables.now partition (bit m)) }
     {
+        // a closure of `then` would not know that the partition is there
         if is_there(self.tables, u32::from(partition)) {
             Some(self.circle_of(partition))
         } else {

@@ -40,6 +40,7 @@ pub fn mask_of(tables: &Tables, q: u8, number: u8) -> u8
     tables.partitions.rows[q as usize].links[number as usize].unwrap_or(0)
 }
 
+// The bounds of 8 below are those of a row or a shift; no test could give the promised value past them.
 /// Whether the mask has the partition.
 pub fn is_member(mask: u8, q: u8) -> bool
     requires { q < 8 }
@@ -64,7 +65,7 @@ pub fn is_source(direction: Direction) -> bool
     direction == Direction::Source
 }
 
-/// Whether port i is a destination of the channel c.
+/// Whether port i is a destination of the channel c; i is below 32, as every row's number is, the blank ones' too.
 pub fn is_hearing(tables: &Tables, c: u8, i: usize) -> bool
     requires { i < 32 }
     ensures { result ≡ hears tables.now c i }

@@ -1,8 +1,11 @@
 -- The calls on time, partitions and plans: 0 to 8.
-use Rattle.std.specs.Prelude.{ℕ, ◌+◌, ◌-◌, List, [], ◌∷◌, pos, ◌==◌, nat_lt, slice_index, slice_index_or, slice_set}
+use Rattle.std.specs.Prelude.{ℕ, ◌+◌, ◌-◌, cond, List, [], ◌∷◌, Result, Ok, Err, pos, ◌==◌, nat_lt, slice_index, slice_index_or, slice_set}
 use Rattle.vector.specs.declared.tables.Tables.{Tables}
 use Rattle.vector.specs.declared.tables.Slot.{Slot}
+use Rattle.machine.specs.declared.answer.Refusal.{Refusal}
 use Rattle.machine.specs.declared.answer.Refusal.TheVariants.{NoAction, InvalidParam, PermError}
+use Rattle.machine.specs.declared.event.ResetMode.{ResetMode}
+use Rattle.machine.specs.declared.event.ResetMode.TheVariants.{Warm, Cold}
 use Rattle.machine.specs.Answers.{reply, status_number}
 use Rattle.machine.specs.Partitions.{nobody, fresh, halted, suspended, resumed, idled, is_active, is_suspended}
 use Rattle.machine.specs.Questions.{exists, manages, is_system, plan, slots_of}
@@ -47,6 +50,10 @@ resume_partition k x a q g =
 
 abbrev pub renewed : Core → ℕ → Core
 renewed x t = with_parts x (slice_set x.parts t fresh)
+
+-- a reset of mode 0 is warm, of mode 1 cold
+abbrev pub mode_of : ℕ → Result ResetMode Refusal
+mode_of n = cond (n == 0) (Ok Warm) (cond (n == 1) (Ok Cold) (Err InvalidParam))
 
 -- 5: the target is cleared and READY; mode 1, cold, also zeroes its area
 abbrev pub reset_partition : Call

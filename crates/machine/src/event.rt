@@ -1,6 +1,7 @@
 // What can be sent to a booted system.
 ghost use Rattle.std.specs.Prelude.{◌≡◌};
 ghost use Rattle.machine.specs.Calls.{call_of};
+ghost use Rattle.machine.specs.Management.{mode_of};
 
 use crate::answer::{Outcome, Refusal};
 use crate::clock::Time;
@@ -38,6 +39,28 @@ pub enum Event {
     SystemFault {
         event: u8,
     },
+}
+
+/// How a partition or the system is reset: a cold reset wipes areas too.
+#[derive(Clone, Copy, Debug, PartialEq, Eq)]
+pub enum ResetMode {
+    Warm,
+    Cold,
+}
+
+/// The mode of a number.
+impl TryFrom<u32> for ResetMode {
+    type Error = Refusal;
+
+    ghost try_from_gives = { λ number r. r ≡ mode_of number };
+
+    fn try_from(number: u32) -> Result<ResetMode, Refusal> {
+        match number {
+            0 => Ok(ResetMode::Warm),
+            1 => Ok(ResetMode::Cold),
+            _ => Err(Refusal::InvalidParam),
+        }
+    }
 }
 
 /// The calls, by their numbers from 0.

@@ -99,6 +99,7 @@ impl Partition {
         }
     }
 
+    // A port's number is a shift of a word here and in `open`; elsewhere its bound is that of a row, or of the tables' ports.
     /// Whether the port of this number is open.
     pub fn is_open(&self, port: u8) -> bool
         requires { port < 32 }

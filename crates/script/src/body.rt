@@ -102,6 +102,7 @@ pub(crate) fn read_body(kind: EventKind, body: &[u8]) -> Event
     requires { length body.now ≡ body_length kind }
     ensures { result ≡ event_of kind body.now }
 {
+    // each kind has other fields and another reader; a table of readers would hide which
     match kind {
         EventKind::Tick => tick(body),
         EventKind::Call => call(body),

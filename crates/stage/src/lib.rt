@@ -34,6 +34,7 @@ pub fn sizes(tables: &Tables) -> [usize; 8]
     array::from_fn(|i| size(tables, i))
 }
 
+// The bounds of 8 are those of one area's number each.
 /// Area i lies from 1,024 i on.
 fn fence(i: usize, size: usize) -> Fence
     requires { i < 8 }
@@ -71,7 +72,8 @@ pub fn pages(sizes: &[usize; 8]) -> [Pages; 8]
     array::from_fn(|i| area_pages(i, sizes[i]))
 }
 
-// The two boards below stay two functions: a generic one would need a trait for one line each, and be no plainer.
+// The two boards below stay two functions: a generic one would need a trait for one line each, and be no plainer. That there are at
+// most eight partitions is a fact of every taken vector; the tables are plain values, so it is asked of both.
 
 /// The fenced board: the areas lie one after another.
 pub fn fenced(tables: &Tables) -> Fenced<ROOM>

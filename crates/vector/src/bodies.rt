@@ -13,6 +13,8 @@ use crate::record::{Kind, NameIn, Record};
 use crate::sofar::Sofar;
 use crate::tables::{ChannelKind, Class, Direction};
 
+// A `NameIn` has a part of a body: whether its place is small is nothing that a reader of records need know. How many partitions there
+// are goes beside the body, since the header says it. The lengths asked below are each kind's own.
 /// The bytes of a record's body, and the place of the first one.
 #[derive(Clone, Copy)]
 pub(crate) struct Body<'a> {
@@ -189,6 +191,7 @@ pub(crate) fn read_body<'a>(
     requires few { sofar.now.partitions ≤ 8 }
     ensures { out field_reason said_of result ≡ said_by kind sofar.now body.entry.at body.entry.bytes.now }
 {
+    // each kind has other fields and another reader; a table of readers would hide which
     match kind {
         Kind::Header => header(body),
         Kind::Partition => partition(body),

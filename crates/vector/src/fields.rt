@@ -12,10 +12,7 @@ use crate::tables::{Action, ChannelKind, Direction};
 pub(crate) fn known<T>(read: Result<T, UnknownNumber>, at: usize) -> Result<T, FieldFault>
     ensures { out field_reason (λ t. t) result ≡ out (λ _. out_of_range at) (λ t. t) read }
 {
-    match read {
-        Ok(value) => Ok(value),
-        Err(UnknownNumber) => Err(FieldFault::OutOfRange { at }),
-    }
+    read.map_err(|_| FieldFault::OutOfRange { at })
 }
 
 pub(crate) fn in_range(value: u32, low: u32, high: u32, at: usize) -> Result<(), FieldFault>
@@ -62,6 +59,7 @@ pub(crate) fn is_direction(number: u8, direction: Direction, at: usize) -> Resul
     }
 }
 
+// The machine asks the same by another definition (`lookup::is_member`); theorems are worded with either, so each has its function.
 fn has_bit(mask: u8, bit: u8) -> bool
     requires { bit < 8 }
     ensures { result ≡ has_bit mask bit }

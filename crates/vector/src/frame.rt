@@ -51,12 +51,8 @@ impl Kind {
 pub(crate) fn split<'a>(bytes: &'a [u8], at: usize) -> Result<Cut<'a, Kind>, FrameFault>
     ensures { out frame_reason framed_of result ≡ framed at bytes.now }
 {
-    let Some(Cut { kind, body, rest }) = front(bytes) else {
-        return Err(FrameFault::PastEnd { at });
-    };
-    let Ok(kind) = Kind::try_from(kind) else {
-        return Err(FrameFault::UnknownKind { at });
-    };
+    let Cut { kind, body, rest } = front(bytes).ok_or(FrameFault::PastEnd { at })?;
+    let kind = Kind::try_from(kind).map_err(|_| FrameFault::UnknownKind { at })?;
     if !kind.takes_body(body.len()) {
         return Err(FrameFault::WrongLength { at });
     }

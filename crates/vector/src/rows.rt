@@ -49,6 +49,7 @@ impl Channel {
     }
 }
 
+// Each table is a field of its own, so what adds a row to one is one line with the field's name.
 impl Tables {
     pub(crate) fn with_partition(self, row: PartitionRow) -> Tables
         requires { self.partitions.count < 8 }

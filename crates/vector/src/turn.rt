@@ -83,6 +83,7 @@ impl Sofar {
     fn is_ready_for(&self, kind: Kind) -> bool
         ensures { result ≡ ready kind self.now }
     {
+        // each kind asks another thing of the tables: no comparison would say it
         match kind {
             Kind::Header => true,
             Kind::Partition => self.tables.partitions.count < self.partitions as usize,

@@ -33,6 +33,7 @@ enum Wanted {
 }
 
 impl Wanted {
+    // The bound is the one that every taken vector keeps; the tables are plain values, so it is asked where it is needed.
     /// How many areas are printed.
     fn areas(self, tables: &Tables) -> u8
         requires { tables.now.partitions.count ≤ 8 }
@@ -64,6 +65,7 @@ fn show_area<B: Board>(rt: &impl Print, system: &System<B>, i: u8) -> anyhow::Re
     Ok(())
 }
 
+// A boot spends a `Checked` and there are two boots, so that the bytes are taken is asked of both functions below.
 /// Boots the vector on a board, takes the history, and prints the board's heading, each answer, and the areas of the first
 /// `shown` partitions. The history has the machine's answers afterwards, also where a print fails.
 fn play<B: Board + Drop>(
@@ -82,6 +84,7 @@ fn play<B: Board + Drop>(
     for exchange in &*history {
         rt.println(Line(exchange.answer))?;
     }
+    // an area is shown and headed by its number, so the range is the iterator
     for i in 0..shown {
         show_area(rt, &system, i)?;
     }
