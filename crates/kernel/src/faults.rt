@@ -1,7 +1,9 @@
 // The health monitor at work: faults, the log, and the calls on the system.
 ghost use Rattle.std.specs.Prelude.{◌≡◌, ℕ, ◌<◌, ◌≤◌, true};
 ghost use Rattle.machine.specs.Answers.{answer_reply, reply_of};
-ghost use Rattle.machine.specs.declared.answer.Answer.TheVariants.{Responded};
+ghost use Rattle.machine.specs.declared.answer.Answer.TheVariants.{Done, Logged, Outside, Responded};
+ghost use Rattle.vector.specs.declared.tables.Action.TheVariants.{Ignore};
+ghost use Rattle.machine.specs.Shapes.{entry0, Shaped};
 ghost use Rattle.machine.specs.Faults.{logged, carried, restarted, system_carried, strayed};
 ghost use Rattle.machine.specs.Monitor.{raise_partition_error, read_log, reset_system, halt_system};
 ghost use Rattle.machine.specs.Step.{fault, system_fault};
@@ -98,7 +100,8 @@ impl<B: Board> System<B> {
     /// Carries a decision out: the log entry first, then the action.
     fn carry_out(&mut self, decision: Decision) -> Answer
         requires { Reaches decision.scope }
-        ensures { gives (world_of B.areas self.new) (answer_reply result) ≡ settled (home decision.scope) (executed decision.scope decision self.old.core.tables (core_of self.old.core)) (world_of B.areas self.old) }
+        ensures answered { result ≡ Responded decision.response.action }
+        ensures is { gives (world_of B.areas self.new) (answer_reply result) ≡ settled (home decision.scope) (executed decision.scope decision self.old.core.tables (core_of self.old.core)) (world_of B.areas self.old) }
     {
         let Decision {
             scope,
@@ -115,7 +118,8 @@ impl<B: Board> System<B> {
 
     /// A load or store outside the area is a fault of its guest.
     pub(crate) fn stray(&mut self, q: Guest) -> Outcome
-        ensures { gives (world_of B.areas self.new) (reply_of result) ≡ settled q (strayed self.old.core.tables (core_of self.old.core) q) (world_of B.areas self.old) }
+        ensures is { gives (world_of B.areas self.new) (reply_of result) ≡ settled q (strayed self.old.core.tables (core_of self.old.core) q) (world_of B.areas self.old) }
+        ensures shaped { Shaped Outside result }
     {
         let decision = decide(
             &self.core.tables,
@@ -127,7 +131,8 @@ impl<B: Board> System<B> {
     }
 
     pub(crate) fn fault(&mut self, q: Guest, event: u8) -> Outcome
-        ensures { gives (world_of B.areas self.new) (reply_of result) ≡ settled q (fault self.old.core.tables (core_of self.old.core) q event) (world_of B.areas self.old) }
+        ensures is { gives (world_of B.areas self.new) (reply_of result) ≡ settled q (fault self.old.core.tables (core_of self.old.core) q event) (world_of B.areas self.old) }
+        ensures shaped { Shaped (Responded Ignore) result }
     {
         if event > 6 {
             return Err(Refusal::InvalidParam);
@@ -137,7 +142,8 @@ impl<B: Board> System<B> {
     }
 
     pub(crate) fn system_fault(&mut self, event: u8) -> Outcome
-        ensures { gives (world_of B.areas self.new) (reply_of result) ≡ settled 0 (system_fault self.old.core.tables (core_of self.old.core) event) (world_of B.areas self.old) }
+        ensures is { gives (world_of B.areas self.new) (reply_of result) ≡ settled 0 (system_fault self.old.core.tables (core_of self.old.core) event) (world_of B.areas self.old) }
+        ensures shaped { Shaped (Responded Ignore) result }
     {
         if event < 8 || event > 11 {
             return Err(Refusal::InvalidParam);
@@ -147,7 +153,8 @@ impl<B: Board> System<B> {
     }
 
     pub(crate) fn raise_partition_error(&mut self, q: Guest, args: Args) -> Outcome
-        ensures { gives (world_of B.areas self.new) (reply_of result) ≡ performed raise_partition_error q args (world_of B.areas self.old) }
+        ensures is { gives (world_of B.areas self.new) (reply_of result) ≡ performed raise_partition_error q args (world_of B.areas self.old) }
+        ensures shaped { Shaped (Responded Ignore) result }
     {
         let decision = decide(
             &self.core.tables,
@@ -158,7 +165,8 @@ impl<B: Board> System<B> {
     }
 
     pub(crate) fn read_log(&mut self, q: Guest, args: Args) -> Outcome
-        ensures { gives (world_of B.areas self.new) (reply_of result) ≡ performed read_log q args (world_of B.areas self.old) }
+        ensures is { gives (world_of B.areas self.new) (reply_of result) ≡ performed read_log q args (world_of B.areas self.old) }
+        ensures shaped { Shaped (Logged 0 entry0) result }
     {
         self.only_system(q)?;
         let entry = self.core.log.take().ok_or(Refusal::NotAvailable)?;
@@ -169,7 +177,8 @@ impl<B: Board> System<B> {
     }
 
     pub(crate) fn reset_system(&mut self, q: Guest, args: Args) -> Outcome
-        ensures { gives (world_of B.areas self.new) (reply_of result) ≡ performed reset_system q args (world_of B.areas self.old) }
+        ensures is { gives (world_of B.areas self.new) (reply_of result) ≡ performed reset_system q args (world_of B.areas self.old) }
+        ensures shaped { Shaped Done result }
     {
         let mode = ResetMode::try_from(args[0])?;
         self.only_system(q)?;
@@ -182,7 +191,8 @@ impl<B: Board> System<B> {
     }
 
     pub(crate) fn halt_system(&mut self, q: Guest, args: Args) -> Outcome
-        ensures { gives (world_of B.areas self.new) (reply_of result) ≡ performed halt_system q args (world_of B.areas self.old) }
+        ensures is { gives (world_of B.areas self.new) (reply_of result) ≡ performed halt_system q args (world_of B.areas self.old) }
+        ensures shaped { Shaped Done result }
     {
         self.only_system(q)?;
         self.core.halted = true;

@@ -1,6 +1,8 @@
 // The calls on interrupts, and the signals of lines.
 ghost use Rattle.std.specs.Prelude.{◌≡◌, ℕ, ◌^◌, ◌<◌, ◌≤◌, if◌then◌else◌};
 ghost use Rattle.machine.specs.Answers.{reply_of};
+ghost use Rattle.machine.specs.declared.answer.Answer.TheVariants.{Done, Words};
+ghost use Rattle.machine.specs.Shapes.{Shaped};
 ghost use Rattle.machine.specs.Partitions.{signalled};
 ghost use Rattle.machine.specs.Interrupts.{raised, raise_ipvi, get_irqs, set_irq_mask, clear_irq_mask, clear_irq_pending};
 ghost use Rattle.machine.specs.Interrupts.{line as line_of};
@@ -34,7 +36,8 @@ fn raise(parts: &mut [Partition; 8], mask: u8, bits: u32)
 
 impl<B: Board> System<B> {
     pub(crate) fn raise_ipvi(&mut self, q: Guest, args: Args) -> Outcome
-        ensures { gives (world_of B.areas self.new) (reply_of result) ≡ performed raise_ipvi q args (world_of B.areas self.old) }
+        ensures is { gives (world_of B.areas self.new) (reply_of result) ≡ performed raise_ipvi q args (world_of B.areas self.old) }
+        ensures shaped { Shaped Done result }
     {
         let number = args[0];
         if number > 7 {
@@ -49,7 +52,8 @@ impl<B: Board> System<B> {
     }
 
     pub(crate) fn get_irqs(&mut self, q: Guest, args: Args) -> Outcome
-        ensures { gives (world_of B.areas self.new) (reply_of result) ≡ performed get_irqs q args (world_of B.areas self.old) }
+        ensures is { gives (world_of B.areas self.new) (reply_of result) ≡ performed get_irqs q args (world_of B.areas self.old) }
+        ensures shaped { Shaped (Words 0 0) result }
     {
         let Partition { pending, mask, .. } = self.core.parts[q.index()];
         Ok(Answer::Words { pending, mask })
@@ -57,21 +61,24 @@ impl<B: Board> System<B> {
 
     // the three calls below are one line each, with a method of their own
     pub(crate) fn set_irq_mask(&mut self, q: Guest, args: Args) -> Outcome
-        ensures { gives (world_of B.areas self.new) (reply_of result) ≡ performed set_irq_mask q args (world_of B.areas self.old) }
+        ensures is { gives (world_of B.areas self.new) (reply_of result) ≡ performed set_irq_mask q args (world_of B.areas self.old) }
+        ensures shaped { Shaped Done result }
     {
         self.core.parts[q.index()].mask(args[0]);
         Ok(Answer::Done)
     }
 
     pub(crate) fn clear_irq_mask(&mut self, q: Guest, args: Args) -> Outcome
-        ensures { gives (world_of B.areas self.new) (reply_of result) ≡ performed clear_irq_mask q args (world_of B.areas self.old) }
+        ensures is { gives (world_of B.areas self.new) (reply_of result) ≡ performed clear_irq_mask q args (world_of B.areas self.old) }
+        ensures shaped { Shaped Done result }
     {
         self.core.parts[q.index()].unmask(args[0]);
         Ok(Answer::Done)
     }
 
     pub(crate) fn clear_irq_pending(&mut self, q: Guest, args: Args) -> Outcome
-        ensures { gives (world_of B.areas self.new) (reply_of result) ≡ performed clear_irq_pending q args (world_of B.areas self.old) }
+        ensures is { gives (world_of B.areas self.new) (reply_of result) ≡ performed clear_irq_pending q args (world_of B.areas self.old) }
+        ensures shaped { Shaped Done result }
     {
         self.core.parts[q.index()].acknowledge(args[0]);
         Ok(Answer::Done)
@@ -79,7 +86,8 @@ impl<B: Board> System<B> {
 
     /// A line signals its own bit to its owner.
     pub(crate) fn line(&mut self, line: u8) -> Outcome
-        ensures { gives (world_of B.areas self.new) (reply_of result) ≡ settled 0 (line_of self.old.core.tables (core_of self.old.core) line) (world_of B.areas self.old) }
+        ensures is { gives (world_of B.areas self.new) (reply_of result) ≡ settled 0 (line_of self.old.core.tables (core_of self.old.core) line) (world_of B.areas self.old) }
+        ensures shaped { Shaped Done result }
     {
         if line > 15 {
             return Err(Refusal::InvalidParam);

@@ -1,6 +1,9 @@
 // The calls on time, partitions and plans.
 ghost use Rattle.std.specs.Prelude.{◌≡◌, ℕ, ◌<◌, ◌≤◌};
 ghost use Rattle.machine.specs.Answers.{reply_of};
+ghost use Rattle.machine.specs.declared.answer.Answer.TheVariants.{Done, Time, State, Plans};
+ghost use Rattle.machine.specs.declared.partition.Status.TheVariants.{Ready};
+ghost use Rattle.machine.specs.Shapes.{Shaped};
 ghost use Rattle.machine.specs.Management.{get_time, get_partition_status, halt_partition, suspend_partition, resume_partition, reset_partition, idle_self, switch_plan, gaps, get_plan_status};
 ghost use Rattle.machine.specs.Questions.{plan, slots_of};
 ghost use Rattle.kernel.specs.Targets.{target_of, system_only};
@@ -31,20 +34,23 @@ impl<B: Board> System<B> {
     }
 
     pub(crate) fn get_time(&mut self, q: Guest, args: Args) -> Outcome
-        ensures { gives (world_of B.areas self.new) (reply_of result) ≡ performed get_time q args (world_of B.areas self.old) }
+        ensures is { gives (world_of B.areas self.new) (reply_of result) ≡ performed get_time q args (world_of B.areas self.old) }
+        ensures shaped { Shaped (Time 0) result }
     {
         Ok(Answer::Time(self.core.clock.time))
     }
 
     pub(crate) fn get_partition_status(&mut self, q: Guest, args: Args) -> Outcome
-        ensures { gives (world_of B.areas self.new) (reply_of result) ≡ performed get_partition_status q args (world_of B.areas self.old) }
+        ensures is { gives (world_of B.areas self.new) (reply_of result) ≡ performed get_partition_status q args (world_of B.areas self.old) }
+        ensures shaped { Shaped (State Ready) result }
     {
         let target = self.target(q, args[0])?;
         Ok(Answer::State(self.core.parts[target.index()].status))
     }
 
     pub(crate) fn halt_partition(&mut self, q: Guest, args: Args) -> Outcome
-        ensures { gives (world_of B.areas self.new) (reply_of result) ≡ performed halt_partition q args (world_of B.areas self.old) }
+        ensures is { gives (world_of B.areas self.new) (reply_of result) ≡ performed halt_partition q args (world_of B.areas self.old) }
+        ensures shaped { Shaped Done result }
     {
         let target = self.target(q, args[0])?;
         self.core.parts[target.index()].halt();
@@ -52,7 +58,8 @@ impl<B: Board> System<B> {
     }
 
     pub(crate) fn suspend_partition(&mut self, q: Guest, args: Args) -> Outcome
-        ensures { gives (world_of B.areas self.new) (reply_of result) ≡ performed suspend_partition q args (world_of B.areas self.old) }
+        ensures is { gives (world_of B.areas self.new) (reply_of result) ≡ performed suspend_partition q args (world_of B.areas self.old) }
+        ensures shaped { Shaped Done result }
     {
         let target = self.target(q, args[0])?;
         let status = self.core.parts[target.index()].status;
@@ -64,7 +71,8 @@ impl<B: Board> System<B> {
     }
 
     pub(crate) fn resume_partition(&mut self, q: Guest, args: Args) -> Outcome
-        ensures { gives (world_of B.areas self.new) (reply_of result) ≡ performed resume_partition q args (world_of B.areas self.old) }
+        ensures is { gives (world_of B.areas self.new) (reply_of result) ≡ performed resume_partition q args (world_of B.areas self.old) }
+        ensures shaped { Shaped Done result }
     {
         let target = self.target(q, args[0])?;
         let status = self.core.parts[target.index()].status;
@@ -76,7 +84,8 @@ impl<B: Board> System<B> {
     }
 
     pub(crate) fn reset_partition(&mut self, q: Guest, args: Args) -> Outcome
-        ensures { gives (world_of B.areas self.new) (reply_of result) ≡ performed reset_partition q args (world_of B.areas self.old) }
+        ensures is { gives (world_of B.areas self.new) (reply_of result) ≡ performed reset_partition q args (world_of B.areas self.old) }
+        ensures shaped { Shaped Done result }
     {
         let mode = ResetMode::try_from(args[1])?;
         let target = self.target(q, args[0])?;
@@ -88,14 +97,16 @@ impl<B: Board> System<B> {
     }
 
     pub(crate) fn idle_self(&mut self, q: Guest, args: Args) -> Outcome
-        ensures { gives (world_of B.areas self.new) (reply_of result) ≡ performed idle_self q args (world_of B.areas self.old) }
+        ensures is { gives (world_of B.areas self.new) (reply_of result) ≡ performed idle_self q args (world_of B.areas self.old) }
+        ensures shaped { Shaped Done result }
     {
         self.core.parts[q.index()].idle();
         Ok(Answer::Done)
     }
 
     pub(crate) fn switch_plan(&mut self, q: Guest, args: Args) -> Outcome
-        ensures { gives (world_of B.areas self.new) (reply_of result) ≡ performed switch_plan q args (world_of B.areas self.old) }
+        ensures is { gives (world_of B.areas self.new) (reply_of result) ≡ performed switch_plan q args (world_of B.areas self.old) }
+        ensures shaped { Shaped Done result }
     {
         let plan = args[0];
         if plan as usize >= self.core.tables.plans.count {
@@ -125,7 +136,8 @@ impl<B: Board> System<B> {
     }
 
     pub(crate) fn get_plan_status(&mut self, q: Guest, args: Args) -> Outcome
-        ensures { gives (world_of B.areas self.new) (reply_of result) ≡ performed get_plan_status q args (world_of B.areas self.old) }
+        ensures is { gives (world_of B.areas self.new) (reply_of result) ≡ performed get_plan_status q args (world_of B.areas self.old) }
+        ensures shaped { Shaped (Plans 0 0 0) result }
     {
         Ok(Answer::Plans {
             plan: self.core.clock.plan,

@@ -1,6 +1,8 @@
 // The calls that send and receive messages.
 ghost use Rattle.std.specs.Prelude.{◌≡◌, ℕ, ◌<◌, ◌&&◌, if◌then◌else◌};
 ghost use Rattle.machine.specs.Answers.{reply_of};
+ghost use Rattle.machine.specs.declared.answer.Answer.TheVariants.{Done, Received, Waiting};
+ghost use Rattle.machine.specs.Shapes.{Shaped};
 ghost use Rattle.machine.specs.Partitions.{is_open, signalled};
 ghost use Rattle.machine.specs.Ports.{message_bit, alerted, write_sampling_message, send_queuing_message, read_sampling_message, receive_queuing_message, get_queuing_status};
 ghost use Rattle.kernel.specs.World.{world_of, gives, performed};
@@ -41,7 +43,8 @@ fn alert(directory: &Directory, parts: &mut [Partition; 8], c: ChannelNumber)
 
 impl<B: Board> System<B> {
     pub(crate) fn write_sampling_message(&mut self, q: Guest, args: Args) -> Outcome
-        ensures { gives (world_of B.areas self.new) (reply_of result) ≡ performed write_sampling_message q args (world_of B.areas self.old) }
+        ensures is { gives (world_of B.areas self.new) (reply_of result) ≡ performed write_sampling_message q args (world_of B.areas self.old) }
+        ensures shaped { Shaped Done result }
     {
         let channel = self.source(q, ChannelKind::Sampling, &args)?;
         let time = self.core.clock.time;
@@ -53,7 +56,8 @@ impl<B: Board> System<B> {
     }
 
     pub(crate) fn send_queuing_message(&mut self, q: Guest, args: Args) -> Outcome
-        ensures { gives (world_of B.areas self.new) (reply_of result) ≡ performed send_queuing_message q args (world_of B.areas self.old) }
+        ensures is { gives (world_of B.areas self.new) (reply_of result) ≡ performed send_queuing_message q args (world_of B.areas self.old) }
+        ensures shaped { Shaped Done result }
     {
         let channel = self.source(q, ChannelKind::Queuing, &args)?;
         let depth = self.core.tables.channels.rows[channel.index()].depth;
@@ -69,7 +73,8 @@ impl<B: Board> System<B> {
     }
 
     pub(crate) fn read_sampling_message(&mut self, q: Guest, args: Args) -> Outcome
-        ensures { gives (world_of B.areas self.new) (reply_of result) ≡ performed read_sampling_message q args (world_of B.areas self.old) }
+        ensures is { gives (world_of B.areas self.new) (reply_of result) ≡ performed read_sampling_message q args (world_of B.areas self.old) }
+        ensures shaped { Shaped (Received 0 0 0) result }
     {
         let channel = self.destination(q, ChannelKind::Sampling, &args)?;
         let message = self.core.channels.oldest(channel).ok_or(Refusal::NoAction)?;
@@ -86,7 +91,8 @@ impl<B: Board> System<B> {
     }
 
     pub(crate) fn receive_queuing_message(&mut self, q: Guest, args: Args) -> Outcome
-        ensures { gives (world_of B.areas self.new) (reply_of result) ≡ performed receive_queuing_message q args (world_of B.areas self.old) }
+        ensures is { gives (world_of B.areas self.new) (reply_of result) ≡ performed receive_queuing_message q args (world_of B.areas self.old) }
+        ensures shaped { Shaped (Received 0 0 0) result }
     {
         let channel = self.destination(q, ChannelKind::Queuing, &args)?;
         let message = self
@@ -108,7 +114,8 @@ impl<B: Board> System<B> {
     }
 
     pub(crate) fn get_queuing_status(&mut self, q: Guest, args: Args) -> Outcome
-        ensures { gives (world_of B.areas self.new) (reply_of result) ≡ performed get_queuing_status q args (world_of B.areas self.old) }
+        ensures is { gives (world_of B.areas self.new) (reply_of result) ≡ performed get_queuing_status q args (world_of B.areas self.old) }
+        ensures shaped { Shaped (Waiting 0) result }
     {
         if !self.is_usable(q, ChannelKind::Queuing, args[0]) {
             return Err(Refusal::InvalidParam);

@@ -1,6 +1,8 @@
 // The calls that open ports, and the tests that the calls on messages begin with.
 ghost use Rattle.std.specs.Prelude.{◌≡◌, ℕ, ◌+◌, ◌<◌, ◌≤◌, true, ◌&&◌, IfOk, length, slice_index, slice_index_or};
 ghost use Rattle.machine.specs.Answers.{reply_of};
+ghost use Rattle.machine.specs.declared.answer.Answer.TheVariants.{Port};
+ghost use Rattle.machine.specs.Shapes.{Shaped};
 ghost use Rattle.machine.specs.Partitions.{nobody, is_open};
 ghost use Rattle.machine.specs.Ports.{agrees, deepens};
 ghost use Rattle.machine.specs.Ports.{create as create_of};
@@ -111,7 +113,8 @@ impl<B: Board> System<B> {
 
     /// Opens the port of q that has this type and the name in a range of its area.
     pub(crate) fn create(&mut self, kind: ChannelKind, q: Guest, args: Args) -> Outcome
-        ensures { gives (world_of B.areas self.new) (reply_of result) ≡ performed (create_of kind) q args (world_of B.areas self.old) }
+        ensures is { gives (world_of B.areas self.new) (reply_of result) ≡ performed (create_of kind) q args (world_of B.areas self.old) }
+        ensures shaped { Shaped (Port 0) result }
     {
         // the direction stays a number: it is only compared with the port's own
         if !is_ranged(&self.board, q.index(), args[0], args[1]) || args[1] > 16 || args[3] > 1 {

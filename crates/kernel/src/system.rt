@@ -3,10 +3,12 @@ ghost use Rattle.std.specs.Prelude.{◌≡◌, ℕ, ◌<◌, ◌≤◌, true, If
 ghost use Rattle.board.specs.Areas.{loaded};
 ghost use Rattle.vector.specs.Reading.{tables as tables_of};
 ghost use Rattle.machine.specs.Answers.{reply_of};
+ghost use Rattle.machine.specs.declared.answer.Answer.TheVariants.{Done, Byte};
+ghost use Rattle.machine.specs.Shapes.{Shaped, ShapedOrOutside, CallShaped, call_shape, Suits};
 ghost use Rattle.machine.specs.Partitions.{bit};
 ghost use Rattle.machine.specs.Questions.{exists};
 ghost use Rattle.machine.specs.Circle.{Circle, circle_of};
-ghost use Rattle.machine.specs.Calls.{called};
+ghost use Rattle.machine.specs.Calls.{call_of, called};
 ghost use Rattle.machine.specs.Calls.{perform as perform_of};
 ghost use Rattle.machine.specs.State.{area};
 ghost use Rattle.machine.specs.Step.{running, load, store, tick};
@@ -76,7 +78,8 @@ impl<B: Board> System<B> {
     }
 
     fn load(&mut self, q: Guest, offset: u32) -> Outcome
-        ensures { gives (world_of B.areas self.new) (reply_of result) ≡ settled q (load self.old.core.tables (core_of self.old.core) (area (B.areas self.old.board) q) q offset) (world_of B.areas self.old) }
+        ensures is { gives (world_of B.areas self.new) (reply_of result) ≡ settled q (load self.old.core.tables (core_of self.old.core) (area (B.areas self.old.board) q) q offset) (world_of B.areas self.old) }
+        ensures shaped { ShapedOrOutside (Byte 0) result }
     {
         match self.board.load(q.index(), offset as usize) {
             Some(byte) => Ok(Answer::Byte(byte)),
@@ -85,7 +88,8 @@ impl<B: Board> System<B> {
     }
 
     fn store(&mut self, q: Guest, offset: u32, byte: u8) -> Outcome
-        ensures { gives (world_of B.areas self.new) (reply_of result) ≡ settled q (store self.old.core.tables (core_of self.old.core) (area (B.areas self.old.board) q) q offset byte) (world_of B.areas self.old) }
+        ensures is { gives (world_of B.areas self.new) (reply_of result) ≡ settled q (store self.old.core.tables (core_of self.old.core) (area (B.areas self.old.board) q) q offset byte) (world_of B.areas self.old) }
+        ensures shaped { ShapedOrOutside Done result }
     {
         match self.board.store(q.index(), offset as usize, byte) {
             Some(()) => Ok(Answer::Done),
@@ -95,7 +99,8 @@ impl<B: Board> System<B> {
 
     /// Goes on to the time t, which is not before now and not too far ahead.
     fn tick(&mut self, t: Time) -> Outcome
-        ensures { gives (world_of B.areas self.new) (reply_of result) ≡ settled 0 (tick self.old.core.tables (core_of self.old.core) t) (world_of B.areas self.old) }
+        ensures is { gives (world_of B.areas self.new) (reply_of result) ≡ settled 0 (tick self.old.core.tables (core_of self.old.core) t) (world_of B.areas self.old) }
+        ensures shaped { Shaped Done result }
     {
         let time = self.core.clock.time;
         if t < time || t - time > FARTHEST {
@@ -113,7 +118,8 @@ impl<B: Board> System<B> {
     // Each call takes the caller and its five words, as the machine's calls do: nothing is known of the pair that a
     // struct would keep. The match stays: a table of functions could not be handed out, and would hide the names.
     fn perform(&mut self, call: Hypercall, q: Guest, args: Args) -> Outcome
-        ensures { gives (world_of B.areas self.new) (reply_of result) ≡ performed (perform_of call) q args (world_of B.areas self.old) }
+        ensures is { gives (world_of B.areas self.new) (reply_of result) ≡ performed (perform_of call) q args (world_of B.areas self.old) }
+        ensures shaped { Shaped (call_shape call) result }
     {
         match call {
             Hypercall::GetTime => self.get_time(q, args),
@@ -145,7 +151,8 @@ impl<B: Board> System<B> {
     }
 
     fn call(&mut self, q: Guest, number: u8, args: Args) -> Outcome
-        ensures { gives (world_of B.areas self.new) (reply_of result) ≡ performed (called number) q args (world_of B.areas self.old) }
+        ensures is { gives (world_of B.areas self.new) (reply_of result) ≡ performed (called number) q args (world_of B.areas self.old) }
+        ensures shaped { CallShaped (call_of number) result }
     {
         self.perform(Hypercall::try_from(number)?, q, args)
     }
@@ -154,6 +161,7 @@ impl<B: Board> System<B> {
     /// partition leaves every other area as it was, save a system partition's cold reset.
     pub fn event(&mut self, e: Event) -> Outcome
         ensures is { gives (world_of B.areas self.new) (reply_of result) ≡ stepped e (world_of B.areas self.old) }
+        ensures suited { Suits e result }
         ensures unmoved { Unmoved (reply_of result) (world_of B.areas self.old) (world_of B.areas self.new) }
         ensures planned { Planned e (world_of B.areas self.old) (world_of B.areas self.new) }
         ensures apart { Apart self.old.core.tables e (B.areas self.old.board) (B.areas self.new.board) }
@@ -178,7 +186,8 @@ impl<B: Board> System<B> {
 
     /// Decides what an event does.
     fn handle(&mut self, e: Event) -> Outcome
-        ensures { gives (world_of B.areas self.new) (reply_of result) ≡ stepped e (world_of B.areas self.old) }
+        ensures is { gives (world_of B.areas self.new) (reply_of result) ≡ stepped e (world_of B.areas self.old) }
+        ensures shaped { Suits e result }
     {
         if self.core.halted {
             return Err(Refusal::SystemHalted);

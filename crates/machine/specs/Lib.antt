@@ -10,6 +10,7 @@ pub mod Ports
 pub mod Interrupts
 pub mod Monitor
 pub mod Calls
+pub mod Shapes
 pub mod Step
 pub mod Runs
 pub mod Circle

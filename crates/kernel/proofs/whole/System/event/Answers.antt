@@ -7,8 +7,9 @@ returns g c =
     let w = world_of g.B.Board.areas c.args.self.now in
     let v = world_of g.B.Board.areas c.handle.new.self in
     record {
-      is = c.handle.ensures;
-      unmoved = unmoved-by w v c.args.e _ c.handle.ensures;
-      planned = planned-by w v c.args.e _ c.handle.ensures;
-      apart = apart w v c.args.e _ c.handle.ensures;
+      is = c.handle.ensures.is;
+      suited = c.handle.ensures.shaped;
+      unmoved = unmoved-by w v c.args.e _ c.handle.ensures.is;
+      planned = planned-by w v c.args.e _ c.handle.ensures.is;
+      apart = apart w v c.args.e _ c.handle.ensures.is;
     }
