@@ -87,7 +87,7 @@ joined at s (ipvi n p m) = joined_link at s n p m
 joined at s (line l p) = joined_line at s l p
 joined at s (action c e a l) = joined_action at s c e (record { action = a; log = l })
 
--- the event is one of the scope's, and the partition is there
+-- the event is one of the scope's, and the partition's number is below 8
 abbrev pub InScope : Scope → ℕ → Type 0
 InScope (scopes.Partition p) e = (p < 8) × (e < 8)
 InScope scopes.System e = (8 ≤ e) × (e < 12)

@@ -72,7 +72,7 @@ impl Sofar {
         self.tables.plans.count == self.plans as usize
     }
 
-    /// The last channel, if there is one, has its two ports.
+    /// The last channel, if there is one, has two ports or more.
     fn has_ports(&self) -> bool
         ensures { result ≡ has_ports self.now }
     {
