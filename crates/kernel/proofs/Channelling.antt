@@ -1,6 +1,6 @@
 -- A message sent into a channel.
-use Rattle.std.proofs.Common.{◌≡◌, ◌∙◌, ℕ, ◌<◌, List, [], ◌∷◌, ◌++◌, map, length, get_or, set, sym, ap, arith}
-use Rattle.std.proofs.lemmas.List.{length-map, map_push, map-set, get_or-map}
+use Rattle.std.proofs.Common.{◌≡◌, ◌∙◌, ℕ, ◌+◌, ◌<◌, List, [], ◌∷◌, ◌++◌, map, length, get_or, set, take, replicate, sym, ap, arith}
+use Rattle.std.proofs.lemmas.List.{length-map, map_push, map-set, get_or-map, take_all, take_more_set, replicate-append-replicate}
 use Rattle.std.proofs.lemmas.Bool.{cond-true, lt-ltb}
 use Rattle.queue.specs.Ring.{pushed}
 use Rattle.machine.specs.declared.message.Message.{Message}
@@ -18,3 +18,11 @@ appended qs i q p m b e f l =
     let g : chan_of (map (map letter_of) qs) i ≡ map letter_of q = get_or-map (map letter_of) qs i q [] b ∙ ap (map letter_of) (sym e) in
     let h = sent q m (omega (arith, ap length g, l)) in
     map-set (map letter_of) qs i p ∙ cc
+
+-- one list more is emptied
+pub emptied-more : {X : Type 0} (qs : List (List X)) (n : ℕ) → n < length qs → take n qs ≡ replicate n [] → take (n + 1) (set qs n []) ≡ replicate (n + 1) []
+emptied-more qs n b e = take_more_set qs n [] b ∙ ap (λ l. l ++ ([] ∷ [])) e ∙ replicate-append-replicate n 1 []
+
+-- all of them are
+pub emptied : (qs : List (List Message)) → length qs ≡ 8 → take 8 qs ≡ replicate 8 [] → map (map letter_of) qs ≡ replicate 8 []
+emptied qs n e = ap (map (map letter_of)) (sym (take_all 8 qs (omega (arith, n))) ∙ e)

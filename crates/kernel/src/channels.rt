@@ -18,12 +18,15 @@ pub struct Channels {
 
 // Clauses see the messages of each channel, oldest first.
 impl Model for Channels {
-    ghost use Rattle.std.specs.Prelude.{List, map};
+    ghost use Rattle.std.specs.Prelude.{◌≡◌, List, length, map};
     ghost use Rattle.machine.specs.Letters.{Letter, letter_of};
 
     ghost Value = { List (List Letter) };
 
     ghost view = { λ c. map (map letter_of) c.queues };
+
+    // there are eight of them
+    ghost invariant = { λ c. length c.queues ≡ 8 };
 }
 
 impl Channels {
@@ -32,6 +35,15 @@ impl Channels {
     {
         Channels {
             queues: array::from_fn(|_| Queue::new(Message::blank())),
+        }
+    }
+
+    /// Empties every channel in its place, which writes far less than a new set of queues.
+    pub(crate) fn clear(&mut self)
+        ensures { self.new ≡ replicate 8 [] }
+    {
+        for queue in self.queues.iter_mut() {
+            queue.clear();
         }
     }
 

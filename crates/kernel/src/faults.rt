@@ -12,7 +12,6 @@ ghost use Rattle.kernel.specs.World.{core_of, world_of, with_core, gives, settle
 
 use crate::areas::{wipe, wipe_all};
 use crate::below::Guest;
-use crate::channels::Channels;
 use crate::monitor::{Decision, decide};
 use crate::whole::System;
 use board::Board;
@@ -78,7 +77,7 @@ impl<B: Board> System<B> {
             ..self.core.clock
         };
         self.core.parts = [Partition::new(); 8];
-        self.core.channels = Channels::new();
+        self.core.channels.clear();
     }
 
     /// What an action does to the system.
