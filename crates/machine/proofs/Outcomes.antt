@@ -1,5 +1,5 @@
 -- What is true of the outcome of every event: one walk over the calls, the faults and the rest.
-use Rattle.std.proofs.Common.{◌≡◌, ℕ, ◌-◌, Bool, true, false, ◌&&◌, ◌||◌, eqb, ltb, List, get_or, pos, negsuc, Some, None, Option, Ok, Err, sym, refl, subst, inl, inr, arith}
+use Rattle.std.proofs.Common.{◌≡◌, ℕ, ◌-◌, Bool, true, false, ◌&&◌, ◌||◌, eqb, ltb, leb, List, get_or, pos, negsuc, Some, None, Option, Ok, Err, sym, refl, subst, inl, inr, arith}
 use Rattle.std.proofs.lemmas.Bool.{both_ways, and_parts, or_cases, or_left, eqb-true, cond-true, cond_both}
 use Rattle.vector.specs.declared.tables.Tables.{Tables}
 use Rattle.vector.specs.declared.tables.Response.{Response}
@@ -20,14 +20,14 @@ use Rattle.machine.specs.Letters.{Letter}
 use Rattle.machine.specs.Questions.{exists, is_system, manages, response}
 use Rattle.machine.specs.State.{Core, State, Effect, keeps, writes, clears, clears_all, Out, refused, guard, area}
 use Rattle.machine.specs.Time.{timed}
-use Rattle.machine.specs.Faults.{logged, carried, faulted, system_response, system_carried}
+use Rattle.machine.specs.Faults.{logged, carried, faulted, system_response, system_carried, system_faulted}
 use Rattle.machine.specs.Management.{arg}
 use Rattle.machine.specs.Ports.{create_at, sampled, taken}
 use Rattle.machine.specs.Interrupts.{line_of}
 use Rattle.machine.specs.Monitor.{read}
 use Rattle.machine.specs.Calls.{perform, calls, attempted, called}
 use Rattle.machine.specs.Step.{running, gate, author, outcome}
-use Rattle.machine.specs.Laws.{replans}
+use Rattle.machine.specs.Laws.{is_reset, resets, replans}
 use Rattle.machine.specs.Isolation.{existing, whose}
 use Rattle.machine.specs.Integrity.{is_cold, is_cold_reset, is_system_fault}
 use Rattle.machine.proofs.Numbered.{From, none, ◌also◌, numbered}
@@ -107,26 +107,29 @@ module _ (k : Tables) (b c : Bool) (x : Core) where
   line_of_tame None p w l = search tame
   line_of_tame (Some q) p w l = search tame depth 8
 
--- a system fault may replan and reach every area
-free_tame : (k : Tables) (p : ℕ) (o : Option ℕ) (x y : Core) (f : Effect) (z : ℕ) → (Sane k x → Sane k y) →
-    Tame k p o true true x (record { core = y; effect = f; reply = reply (pos z) 0 0 })
-free_tame k p o x y f z h = tame_told k p o true true x z 0 0 (λ e. absurd (both_ways true e refl)) (λ e. absurd (both_ways true e refl)) h
+never : {A : Type 0} → true ≡ false → A
+never e = absurd (both_ways true e refl)
 
-system_carried_tame : (k : Tables) (p : ℕ) (o : Option ℕ) (a : Action) (x y : Core) → (Sane k x → Sane k y) →
-    Tame k p o true true x (system_carried k a y)
-system_carried_tame k p o Ignore x y h = search (free_tame, sane)
-system_carried_tame k p o Signal x y h = search (free_tame, sane)
-system_carried_tame k p o Suspend x y h = search (free_tame, sane)
-system_carried_tame k p o Halt x y h = search (free_tame, sane)
-system_carried_tame k p o WarmReset x y h = search (free_tame, sane)
-system_carried_tame k p o ColdReset x y h = search (free_tame, sane)
+-- a system fault may reach every area, and replans by a reset alone
+system_tame : (k : Tables) (p : ℕ) (o : Option ℕ) (b : Bool) (x y : Core) (f : Effect) (z : ℕ) → (b ≡ false → y.clock.plan ≡ x.clock.plan) →
+    (Sane k x → Sane k y) → Tame k p o b true x (record { core = y; effect = f; reply = reply (pos z) 0 0 })
+system_tame k p o b x y f z e h = tame_told k p o b true x z 0 0 e never h
+
+system_carried_tame : (k : Tables) (p : ℕ) (o : Option ℕ) (a : Action) (x y : Core) → y.clock.plan ≡ x.clock.plan → (Sane k x → Sane k y) →
+    Tame k p o (resets a) true x (system_carried k a y)
+system_carried_tame k p o Ignore x y e h = search (system_tame, sane)
+system_carried_tame k p o Signal x y e h = search (system_tame, sane)
+system_carried_tame k p o Suspend x y e h = search (system_tame, sane)
+system_carried_tame k p o Halt x y e h = search (system_tame, sane)
+system_carried_tame k p o WarmReset x y e h = let z = never {A = 0 ≡ x.clock.plan} in search (system_tame, sane)
+system_carried_tame k p o ColdReset x y e h = let z = never {A = 0 ≡ x.clock.plan} in search (system_tame, sane)
 
 ruleset parts = (carried_tame, faulted_tame, create_at_tame, sampled_tame, taken_tame, read_tame, line_of_tame)
 
 -- a call of this number: a system partition's system reset replans, and its cold reset reaches others
 abbrev Called : ℕ → Hypercall → Type 0
 Called n h = (k : Tables) (x : Core) (a : List ℕ) (q : ℕ) (g : List ℕ) →
-    Tame k q (Some q) (is_system k q && eqb n 23) (is_system k q && is_cold n g) x (perform h k x a q g)
+    Tame k q (Some q) (is_system k q && is_reset n g) (is_system k q && is_cold n g) x (perform h k x a q g)
 
 -- where a system partition is free to do what others may not
 free : {A : Type 0} (a b : Bool) → a ≡ true → b ≡ true → (a && b) ≡ false → A
@@ -172,26 +175,38 @@ all_tame =
     also (λ k x a q g. search (tame, parts))
     also (λ k x a q g. search (tame, parts))
     also (λ k x a q g.
-    let plan = free {A = 0 ≡ x.clock.plan} (is_system k q) true in
+    let plan = free {A = 0 ≡ x.clock.plan} (is_system k q) (is_reset 23 g) in
     let areas = free {A = ⊥} (is_system k q) (is_cold 23 g) in
     search tame depth 10)
     also (λ k x a q g. search tame depth 8)
     also none
 
 called_tame : (k : Tables) (x : Core) (n : ℕ) (a : List ℕ) (q : ℕ) (g : List ℕ) →
-    Tame k q (Some q) (is_system k q && eqb n 23) (is_system k q && is_cold n g) x (called n k x a q g)
+    Tame k q (Some q) (is_system k q && is_reset n g) (is_system k q && is_cold n g) x (called n k x a q g)
 called_tame k x n a q g =
     cond_both (ltb n 25) (Ok (get_or calls n GetTime)) (Err UnknownHypercall)
-    (λ c. Tame k q (Some q) (is_system k q && eqb n 23) (is_system k q && is_cold n g) x (attempted c k x a q g))
+    (λ c. Tame k q (Some q) (is_system k q && is_reset n g) (is_system k q && is_cold n g) x (attempted c k x a q g))
     (λ _. numbered Called (λ n k x a q g. search tame) all_tame n k x a q g)
     (λ _. tame_refused k q (Some q) _ _ x UnknownHypercall)
 
--- who is on the processor exists
-gate_tame : (k : Tables) (b c : Bool) (x : Core) (q : ℕ) {u : Out} → Tame k q (Some q) b c x u → Tame k q (existing k q) b c x (gate k x q u)
+-- who is on the processor exists, and nobody else replans
+gate_tame : (k : Tables) (b c : Bool) (x : Core) (q : ℕ) {u : Out} → Tame k q (Some q) b c x u →
+    Tame k q (existing k q) (running k x q && b) c x (gate k x q u)
 gate_tame k b c x q {u} h =
-    tame_guard k q (existing k q) b c x (running k x q)
-    (λ e. subst (λ o. Tame k q o b c x u) (sym (cond-true (exists k q) (Some q) None (and_parts (exists k q) _ e).0)) h)
+    tame_guard k q (existing k q) (running k x q && b) c x (running k x q)
+    (λ e.
+    subst (λ r. Tame k q (existing k q) (r && b) c x u) (sym e)
+    (subst (λ o. Tame k q o b c x u) (sym (cond-true (exists k q) (Some q) None (and_parts (exists k q) _ e).0)) h))
     (λ _. search tame)
+
+and-false : (b : Bool) → (b && false) ≡ false
+and-false true = refl
+and-false false = refl
+
+-- .. and where the event itself does not replan
+still_tame : (k : Tables) (c : Bool) (x : Core) (q : ℕ) {u : Out} → Tame k q (Some q) false c x u → Tame k q (existing k q) false c x (gate k x q u)
+still_tame k c x q {u} h =
+    subst (λ b. Tame k q (existing k q) b c x (gate k x q u)) (and-false (running k x q)) (gate_tame k false c x q h)
 
 outcome_tame : (k : Tables) (s : State) (e : Event) →
     Tame k (author e) (whose k e) (replans k s e) (is_system_fault e || is_cold_reset k e) s.core (outcome k s e)
@@ -203,13 +218,17 @@ outcome_tame k s (Tick t) =
 outcome_tame k s (Call q n g) =
     gate_tame k _ _ s.core q
     (called_tame k s.core n (area s.areas q) q g)
-outcome_tame k s (Load q o) = gate_tame k _ _ s.core q (let h = faulted_tame k false false s.core q 6 in search tame)
-outcome_tame k s (Store q o v) = gate_tame k _ _ s.core q (let h = faulted_tame k false false s.core q 6 in search tame)
-outcome_tame k s (Fault q e) = gate_tame k _ _ s.core q (search (tame, parts))
+outcome_tame k s (Load q o) = still_tame k _ s.core q (let h = faulted_tame k false false s.core q 6 in search tame)
+outcome_tame k s (Store q o v) = still_tame k _ s.core q (let h = faulted_tame k false false s.core q 6 in search tame)
+outcome_tame k s (Fault q e) = still_tame k _ s.core q (search (tame, parts))
 outcome_tame k s (Line l) = search (tame, parts)
 outcome_tame k s (SystemFault e) =
-    let h = system_carried_tame k 0 None (system_response k e).action s.core _ (logged_sane k s.core System e (system_response k e)) in
-    search tame
+    let r = system_response k e in
+    let c = leb 8 e && ltb e 12 in
+    let h = system_carried_tame k 0 None r.action s.core _ (logged-plan System e r s.core) (logged_sane k s.core System e r) in
+    tame_guard k 0 None (c && resets r.action) true s.core c
+    (λ i. subst (λ b. Tame k 0 None (b && resets r.action) true s.core (system_faulted k s.core e)) (sym i) h)
+    (λ _. search tame)
 
 -- .. in a system that runs or is halted
 pub tamed : (k : Tables) (s : State) (e : Event) →

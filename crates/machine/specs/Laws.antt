@@ -1,10 +1,12 @@
 -- Laws of the machine, in every state and over all runs.
-use Rattle.std.specs.Prelude.{◌≡◌, ℕ, zero, suc, ◌+◌, ◌-◌, ◌≤◌, Bool, true, false, ◌&&◌, ◌||◌, List, [], ◌∷◌, length, get_or, negsuc, Some, ◌==◌, slice_index_or}
+use Rattle.std.specs.Prelude.{◌≡◌, ℕ, zero, suc, ◌+◌, ◌-◌, ◌≤◌, Bool, true, false, ◌&&◌, ◌||◌, List, [], ◌∷◌, length, get_or, negsuc, Some, ◌==◌, nat_le, nat_lt, slice_index_or}
 use Rattle.vector.specs.Laws.{channel_at}
 use Rattle.vector.specs.declared.tables.Tables.{Tables}
 use Rattle.vector.specs.Tables.{Plans}
 use Rattle.vector.specs.declared.tables.ChannelKind.{ChannelKind}
 use Rattle.vector.specs.declared.tables.ChannelKind.TheVariants.{Sampling, Queuing}
+use Rattle.vector.specs.declared.tables.Action.{Action}
+use Rattle.vector.specs.declared.tables.Action.TheVariants.{Ignore, Signal, Suspend, Halt, WarmReset, ColdReset}
 use Rattle.machine.specs.declared.clock.Clock.{Clock}
 use Rattle.machine.specs.declared.partition.Status.TheVariants.{Halted, Ready}
 use Rattle.machine.specs.declared.event.Event.{Event}
@@ -15,6 +17,8 @@ use Rattle.machine.specs.Partitions.{nobody}
 use Rattle.machine.specs.Questions.{exists, is_system, plan, slots_of, holder}
 use Rattle.machine.specs.State.{Core, State}
 use Rattle.machine.specs.Time.{plan_at, rolled}
+use Rattle.machine.specs.Faults.{system_response}
+use Rattle.machine.specs.Management.{arg}
 use Rattle.machine.specs.Step.{running, step}
 
 -- A refusal moves nothing: after a negative code all is as it was, the areas too.
@@ -81,15 +85,29 @@ unfoldable pub ends_within : Plans → ℕ → Clock → Bool
 ends_within ps zero c = false
 ends_within ps (suc n) c = frame_ends ps c || ends_within ps n (rolled ps c)
 
--- may the event change the plan: a tick in which a frame ends, a system partition's system reset, or a system fault
+-- a system reset: call 23 with a mode
+abbrev pub is_reset : ℕ → List ℕ → Bool
+is_reset n g = n == 23 && nat_lt (arg g 0) 2
+
+-- does this action of the health monitor reset the system
+abbrev pub resets : Action → Bool
+resets Ignore = false
+resets Signal = false
+resets Suspend = false
+resets Halt = false
+resets WarmReset = true
+resets ColdReset = true
+
+-- may the event change the plan: a tick in which a frame ends, a system reset by the system partition on the processor,
+-- or a fault of the system whose response is a reset
 abbrev pub replans : Tables → State → Event → Bool
 replans k s (Tick t) = ends_within k.plans (t - s.core.clock.time) s.core.clock
-replans k s (Call q n g) = is_system k q && n == 23
+replans k s (Call q n g) = running k s.core q && (is_system k q && is_reset n g)
 replans k s (Load q o) = false
 replans k s (Store q o v) = false
 replans k s (Fault q e) = false
 replans k s (Line l) = false
-replans k s (SystemFault e) = true
+replans k s (SystemFault e) = (nat_le 8 e && nat_lt e 12) && resets (system_response k e).action
 
 -- No other event does: plans switch where a frame ends.
 abbrev pub Planned : Tables → State → Event → Type 0
