@@ -1,8 +1,11 @@
 -- What a checked vector says of its tables, in the parts that a system keeps.
-use Rattle.std.proofs.Common.{arith}
+use Rattle.std.proofs.Common.{◌≡◌, ℕ, true, List, subst, arith}
 use Rattle.vector.specs.declared.tables.Tables.{Tables}
 use Rattle.vector.specs.Sound.{Sound}
 use Rattle.vector.specs.Fair.{Fair}
+use Rattle.vector.specs.Laws.{Lawful}
+use Rattle.vector.specs.Reading.{takes, tables}
+use Rattle.vector.proofs.Laws.{read-lawful, taken-read}
 use Rattle.machine.specs.Time.{clock_of}
 use Rattle.clock.specs.Timely.{Timely}
 use Rattle.kernel.specs.Soundness.{Planned, Framed, Slotted, Owned, Bounded}
@@ -26,3 +29,6 @@ module _ (t : Tables) (s : Sound t) where
   -- the clock starts within the first plan's frame
   pub started : Timely t.plans (clock_of 0 0 0 0)
   started = let f = (s.2.2 0 (omega (arith, s.2.0))).0 in (omega (arith, s.2.0), omega (arith, s.2.0), omega arith, omega (arith, f))
+
+pub takes-lawful : (bs : List ℕ) → takes bs ≡ true → Lawful (tables bs)
+takes-lawful bs e = let o = taken-read bs e in subst Lawful o.1.1 (read-lawful bs o.0 o.1.0).1

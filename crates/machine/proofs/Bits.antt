@@ -2,9 +2,10 @@
 use Rattle.std.proofs.Common.{◌≡◌, ℕ, zero, suc, ◌*◌, ◌/◌, ◌%◌, ◌^◌, ◌<◌, true, false, eqb, ◌⊎◌, sym, ap, ◌∙◌, inl, inr, arith}
 use Rattle.std.specs.Int.{bit_at}
 use Rattle.std.specs.Int.Bits.{bit_and, bit_or}
-use Rattle.std.proofs.lemmas.Bool.{not-true, not_from_false, eqb-false, ne_eqb, cases_eq}
+use Rattle.std.proofs.lemmas.Bool.{not-true, not_from_false, eqb-false, eq-eqb, ne_eqb, cases_eq}
 use Rattle.std.proofs.lemmas.Nat.{pow_pos}
 use Rattle.std.proofs.lemmas.Nat.Bits.{bit_at_lowest, bit_at-suc, bit_at-zero, bit_at_and, bit_at_or, bit_at-pow_same, bit_at-pow_other, and_pow}
+use Rattle.vector.specs.Fields.{has_bit}
 use Rattle.machine.specs.Partitions.{bit}
 
 -- the bit of a number, as std has it: 0 or 1
@@ -24,6 +25,10 @@ bit_one w i h =
           let f : bit_and w (2 ^ i) ≡ 0 * 2 ^ i = and_pow w i ∙ ap (λ b. b * 2 ^ i) z in
           absurd (eqb-false _ _ (not-true _ h) (omega arith))
     ]
+
+-- the vector asks for a bit another way
+pub has : (w i : ℕ) → bit w i ≡ true → has_bit w i ≡ true
+has w i h = eq-eqb _ _ (bit_one w i h)
 
 -- a word that is not 0 has a bit
 record Bit (w : ℕ) : Type 0 where

@@ -20,5 +20,6 @@ pub mod Rounds
 pub mod Numbered
 pub mod Refusals
 pub mod Calm
+pub mod Names
 pub mod Bounds
 pub mod Schedules

@@ -1,6 +1,6 @@
 -- What is true of the outcome of every event: one walk over the calls, the faults and the rest.
 use Rattle.std.proofs.Common.{◌≡◌, ℕ, ◌-◌, Bool, true, false, ◌&&◌, ◌||◌, eqb, ltb, leb, List, get_or, pos, negsuc, Some, None, Option, Ok, Err, sym, refl, subst, inl, inr, arith}
-use Rattle.std.proofs.lemmas.Bool.{both_ways, and_parts, or_cases, or_left, eqb-true, cond-true, cond_both}
+use Rattle.std.proofs.lemmas.Bool.{both_ways, or_cases, or_left, eqb-true, cond-true, cond_both}
 use Rattle.vector.specs.declared.tables.Tables.{Tables}
 use Rattle.vector.specs.declared.tables.Response.{Response}
 use Rattle.vector.specs.declared.record.Scope.{Scope}
@@ -8,7 +8,9 @@ use Rattle.vector.specs.declared.record.Scope.TheVariants.{Partition, System}
 use Rattle.vector.specs.declared.tables.Action.{Action}
 use Rattle.vector.specs.declared.tables.Action.TheVariants.{Ignore, Signal, Suspend, Halt, WarmReset, ColdReset}
 use Rattle.vector.specs.declared.tables.ChannelKind.{ChannelKind}
+use Rattle.vector.specs.declared.tables.ChannelKind.TheVariants.{Sampling, Queuing}
 use Rattle.machine.specs.declared.log.Entry.{Entry}
+use Rattle.machine.specs.declared.partition.Status.TheVariants.{Ready}
 use Rattle.machine.specs.declared.answer.Refusal.{Refusal}
 use Rattle.machine.specs.declared.answer.Refusal.TheVariants.{UnknownHypercall, SystemHalted}
 use Rattle.machine.specs.declared.event.Event.{Event}
@@ -17,22 +19,26 @@ use Rattle.machine.specs.declared.event.Hypercall.{Hypercall}
 use Rattle.machine.specs.declared.event.Hypercall.TheVariants.{GetTime}
 use Rattle.machine.specs.Answers.{reply}
 use Rattle.machine.specs.Letters.{Letter}
-use Rattle.machine.specs.Questions.{exists, is_system, manages, response}
+use Rattle.machine.specs.Questions.{exists, is_system, manages, response, owner}
 use Rattle.machine.specs.State.{Core, State, Effect, keeps, writes, clears, clears_all, Out, refused, guard, area}
 use Rattle.machine.specs.Time.{timed}
 use Rattle.machine.specs.Faults.{logged, carried, faulted, system_response, system_carried, system_faulted}
 use Rattle.machine.specs.Management.{arg}
-use Rattle.machine.specs.Ports.{create_at, sampled, taken}
+use Rattle.machine.specs.Partitions.{nobody, masked, unmasked, acknowledged}
+use Rattle.machine.specs.Ports.{nameable, sought, create_at, sampled, taken}
 use Rattle.machine.specs.Interrupts.{line_of}
 use Rattle.machine.specs.Monitor.{read}
 use Rattle.machine.specs.Calls.{perform, calls, attempted, called}
 use Rattle.machine.specs.Step.{running, gate, author, outcome}
-use Rattle.machine.specs.Laws.{is_reset, resets, replans}
+use Rattle.machine.specs.Laws.{PortOf, is_reset, resets, replans, Planned}
 use Rattle.machine.specs.Isolation.{existing, whose}
 use Rattle.machine.specs.Integrity.{is_cold, is_cold_reset, is_system_fault}
 use Rattle.machine.proofs.Numbered.{From, none, ◌also◌, numbered}
 use Rattle.machine.proofs.Passing.{micros-plan}
-use Rattle.machine.proofs.Sane.{Sane, later_sane, logged_sane, sane}
+use Rattle.machine.proofs.Calm.{There, owned}
+use Rattle.machine.proofs.Names.{named-own, none-not}
+use Rattle.machine.proofs.Schedules.{scheduled}
+use Rattle.machine.proofs.Sane.{Sane, sane_ready, later_sane, logged_sane, sane}
 
 -- an effect on the area of o alone, where p's area is the one that is written
 abbrev pub Mine : ℕ → Option ℕ → Effect → Type 0
@@ -74,22 +80,23 @@ logged-plan : (c : Scope) (e : ℕ) (r : Response) (x : Core) → (logged c e r 
 logged-plan c e r x = cond_both r.log _ _ (λ (y : Core). y.clock.plan ≡ x.clock.plan) (λ _. refl) (λ _. refl)
 
 module _ (k : Tables) (b c : Bool) (x : Core) where
-  carried_tame : (a : Action) (q : ℕ) (y : Core) → y.clock.plan ≡ x.clock.plan → (Sane k x → Sane k y) →
+  carried_tame : (a : Action) (q : ℕ) (y : Core) → exists k q ≡ true → y.clock.plan ≡ x.clock.plan → (Sane k x → Sane k y) →
       Tame k q (Some q) b c x (carried a q y)
-  carried_tame Ignore q y e h = search tame depth 8
-  carried_tame Signal q y e h = search tame depth 8
-  carried_tame Suspend q y e h = search tame depth 8
-  carried_tame Halt q y e h = search tame depth 8
-  carried_tame WarmReset q y e h = search tame depth 8
-  carried_tame ColdReset q y e h = search tame depth 8
+  carried_tame Ignore q y t e h = search tame depth 8
+  carried_tame Signal q y t e h = search tame depth 8
+  carried_tame Suspend q y t e h = search tame depth 8
+  carried_tame Halt q y t e h = search tame depth 8
+  carried_tame WarmReset q y t e h = search tame depth 8
+  carried_tame ColdReset q y t e h = search tame depth 8
 
-  faulted_tame : (q e : ℕ) → Tame k q (Some q) b c x (faulted k x q e)
-  faulted_tame q e =
-      carried_tame (response k q e).action q _ (logged-plan (Partition q) e (response k q e) x) (logged_sane k x (Partition q) e (response k q e))
+  faulted_tame : (q e : ℕ) → exists k q ≡ true → Tame k q (Some q) b c x (faulted k x q e)
+  faulted_tame q e t =
+      carried_tame (response k q e).action q _ t (logged-plan (Partition q) e (response k q e) x) (logged_sane k x (Partition q) e (response k q e))
 
-  create_at_tame : (o : Option ℕ) (t : ChannelKind) (q : ℕ) (g : List ℕ) → Tame k q (Some q) b c x (create_at o t k x q g)
-  create_at_tame None t q g = search tame
-  create_at_tame (Some i) t q g = search tame depth 8
+  create_at_tame : (o : Option ℕ) (t : ChannelKind) (q : ℕ) (g : List ℕ) → exists k q ≡ true → ((i : ℕ) → o ≡ Some i → PortOf k q i) →
+      Tame k q (Some q) b c x (create_at o t k x q g)
+  create_at_tame None t q g z p = search tame
+  create_at_tame (Some i) t q g z p = let w = p i refl in search tame depth 8
 
   sampled_tame : (o : Option Letter) (a : List ℕ) (q : ℕ) (g : List ℕ) → Tame k q (Some q) b c x (sampled x a g o)
   sampled_tame None a q g = search tame
@@ -103,9 +110,9 @@ module _ (k : Tables) (b c : Bool) (x : Core) where
   read_tame None q = search tame
   read_tame (Some e) q = search tame
 
-  line_of_tame : (o : Option ℕ) (p : ℕ) (w : Option ℕ) (l : ℕ) → Tame k p w b c x (line_of o x l)
-  line_of_tame None p w l = search tame
-  line_of_tame (Some q) p w l = search tame depth 8
+  line_of_tame : (o : Option ℕ) (p : ℕ) (w : Option ℕ) (l : ℕ) → ((q : ℕ) → o ≡ Some q → There k q) → Tame k p w b c x (line_of o x l)
+  line_of_tame None p w l t = search tame
+  line_of_tame (Some q) p w l t = let z = t q refl in search tame depth 8
 
 never : {A : Type 0} → true ≡ false → A
 never e = absurd (both_ways true e refl)
@@ -124,11 +131,18 @@ system_carried_tame k p o Halt x y e h = search (system_tame, sane)
 system_carried_tame k p o WarmReset x y e h = let z = never {A = 0 ≡ x.clock.plan} in search (system_tame, sane)
 system_carried_tame k p o ColdReset x y e h = let z = never {A = 0 ≡ x.clock.plan} in search (system_tame, sane)
 
-ruleset parts = (carried_tame, faulted_tame, create_at_tame, sampled_tame, taken_tame, read_tame, line_of_tame)
+ruleset parts = (faulted_tame, sampled_tame, taken_tame, read_tame)
+
+-- the port that is sought is the caller's own
+sought-own : (k : Tables) (a : List ℕ) (q : ℕ) (t : ChannelKind) (g : List ℕ) (i : ℕ) → sought k a q t g ≡ Some i → PortOf k q i
+sought-own k a q t g i =
+    cond_both (nameable a g) _ _ (λ o. o ≡ Some i → PortOf k q i)
+    (λ _. named-own k q t _ i k.ports.count)
+    (λ _ (e : ◌≡◌ {A = Option ℕ} None (Some i)). absurd (none-not i e))
 
 -- a call of this number: a system partition's system reset replans, and its cold reset reaches others
 abbrev Called : ℕ → Hypercall → Type 0
-Called n h = (k : Tables) (x : Core) (a : List ℕ) (q : ℕ) (g : List ℕ) →
+Called n h = (k : Tables) (x : Core) (a : List ℕ) (q : ℕ) (g : List ℕ) → exists k q ≡ true → (get_or x.parts q nobody).status ≡ Ready →
     Tame k q (Some q) (is_system k q && is_reset n g) (is_system k q && is_cold n g) x (perform h k x a q g)
 
 -- where a system partition is free to do what others may not
@@ -148,55 +162,57 @@ cold_own k q g m e c =
 all_tame : From Called 0 calls
 all_tame =
     -- 0 to 8: time, partitions, plans
-    (λ k x a q g. search tame)
-    also (λ k x a q g. search tame)
-    also (λ k x a q g. search tame depth 10)
-    also (λ k x a q g. search tame depth 10)
-    also (λ k x a q g. search tame depth 10)
-    also (λ k x a q g. let h = cold_own k q g in search tame depth 12)
-    also (λ k x a q g. search tame depth 8)
-    also (λ k x a q g. search tame depth 8)
-    also (λ k x a q g. search tame)
+    (λ k x a q g t r. search tame)
+    also (λ k x a q g t r. search tame)
+    also (λ k x a q g t r. search tame depth 10)
+    also (λ k x a q g t r. search tame depth 10)
+    also (λ k x a q g t r. search tame depth 10)
+    also (λ k x a q g t r. let h = cold_own k q g in search tame depth 12)
+    also (λ k x a q g t r. search tame depth 8)
+    also (λ k x a q g t r. search tame depth 8)
+    also (λ k x a q g t r. search tame)
     -- 9 to 15: ports
-    also (λ k x a q g. search (tame, parts))
-    also (λ k x a q g. search tame depth 8)
-    also (λ k x a q g. search (tame, parts))
-    also (λ k x a q g. search (tame, parts))
-    also (λ k x a q g. search tame depth 8)
-    also (λ k x a q g. search (tame, parts))
-    also (λ k x a q g. search tame)
+    also (λ k x a q g t r. create_at_tame k _ _ x (sought k a q Sampling g) Sampling q g t (sought-own k a q Sampling g))
+    also (λ k x a q g t r. search tame depth 8)
+    also (λ k x a q g t r. search (tame, parts))
+    also (λ k x a q g t r. create_at_tame k _ _ x (sought k a q Queuing g) Queuing q g t (sought-own k a q Queuing g))
+    also (λ k x a q g t r. search tame depth 8)
+    also (λ k x a q g t r. search (tame, parts))
+    also (λ k x a q g t r. search tame)
     -- 16 to 20: interrupts
-    also (λ k x a q g. search tame depth 8)
-    also (λ k x a q g. search tame)
-    also (λ k x a q g. search tame depth 8)
-    also (λ k x a q g. search tame depth 8)
-    also (λ k x a q g. search tame depth 8)
+    also (λ k x a q g t r. search tame depth 8)
+    also (λ k x a q g t r. search tame)
+    also (λ k x a q g t r. let h = sane_ready k x q (masked (arg g 0)) t r refl in search tame depth 8)
+    also (λ k x a q g t r. let h = sane_ready k x q (unmasked (arg g 0)) t r refl in search tame depth 8)
+    also (λ k x a q g t r. let h = sane_ready k x q (acknowledged (arg g 0)) t r refl in search tame depth 8)
     -- 21 to 24: the health monitor, the log, the system
-    also (λ k x a q g. search (tame, parts))
-    also (λ k x a q g. search (tame, parts))
-    also (λ k x a q g.
+    also (λ k x a q g t r. search (tame, parts))
+    also (λ k x a q g t r. search (tame, parts))
+    also (λ k x a q g t r.
     let plan = free {A = 0 ≡ x.clock.plan} (is_system k q) (is_reset 23 g) in
     let areas = free {A = ⊥} (is_system k q) (is_cold 23 g) in
     search tame depth 10)
-    also (λ k x a q g. search tame depth 8)
+    also (λ k x a q g t r. search tame depth 8)
     also none
 
-called_tame : (k : Tables) (x : Core) (n : ℕ) (a : List ℕ) (q : ℕ) (g : List ℕ) →
+called_tame : (k : Tables) (x : Core) (n : ℕ) (a : List ℕ) (q : ℕ) (g : List ℕ) → exists k q ≡ true → (get_or x.parts q nobody).status ≡ Ready →
     Tame k q (Some q) (is_system k q && is_reset n g) (is_system k q && is_cold n g) x (called n k x a q g)
-called_tame k x n a q g =
+called_tame k x n a q g t r =
     cond_both (ltb n 25) (Ok (get_or calls n GetTime)) (Err UnknownHypercall)
     (λ c. Tame k q (Some q) (is_system k q && is_reset n g) (is_system k q && is_cold n g) x (attempted c k x a q g))
-    (λ _. numbered Called (λ n k x a q g. search tame) all_tame n k x a q g)
+    (λ _. numbered Called (λ n k x a q g t r. search tame) all_tame n k x a q g t r)
     (λ _. tame_refused k q (Some q) _ _ x UnknownHypercall)
 
--- who is on the processor exists, and nobody else replans
-gate_tame : (k : Tables) (b c : Bool) (x : Core) (q : ℕ) {u : Out} → Tame k q (Some q) b c x u →
+-- who is on the processor exists and is READY, and nobody else replans
+gate_tame : (k : Tables) (b c : Bool) (x : Core) (q : ℕ) {u : Out} →
+    (exists k q ≡ true → (get_or x.parts q nobody).status ≡ Ready → Tame k q (Some q) b c x u) →
     Tame k q (existing k q) (running k x q && b) c x (gate k x q u)
 gate_tame k b c x q {u} h =
     tame_guard k q (existing k q) (running k x q && b) c x (running k x q)
     (λ e.
+    let w = scheduled k x q e in
     subst (λ r. Tame k q (existing k q) (r && b) c x u) (sym e)
-    (subst (λ o. Tame k q o b c x u) (sym (cond-true (exists k q) (Some q) None (and_parts (exists k q) _ e).0)) h))
+    (subst (λ o. Tame k q o b c x u) (sym (cond-true (exists k q) (Some q) None w.there)) (h w.there w.ready)))
     (λ _. search tame)
 
 and-false : (b : Bool) → (b && false) ≡ false
@@ -204,7 +220,9 @@ and-false true = refl
 and-false false = refl
 
 -- .. and where the event itself does not replan
-still_tame : (k : Tables) (c : Bool) (x : Core) (q : ℕ) {u : Out} → Tame k q (Some q) false c x u → Tame k q (existing k q) false c x (gate k x q u)
+still_tame : (k : Tables) (c : Bool) (x : Core) (q : ℕ) {u : Out} →
+    (exists k q ≡ true → (get_or x.parts q nobody).status ≡ Ready → Tame k q (Some q) false c x u) →
+    Tame k q (existing k q) false c x (gate k x q u)
 still_tame k c x q {u} h =
     subst (λ b. Tame k q (existing k q) b c x (gate k x q u)) (and-false (running k x q)) (gate_tame k false c x q h)
 
@@ -218,10 +236,10 @@ outcome_tame k s (Tick t) =
 outcome_tame k s (Call q n g) =
     gate_tame k _ _ s.core q
     (called_tame k s.core n (area s.areas q) q g)
-outcome_tame k s (Load q o) = still_tame k _ s.core q (let h = faulted_tame k false false s.core q 6 in search tame)
-outcome_tame k s (Store q o v) = still_tame k _ s.core q (let h = faulted_tame k false false s.core q 6 in search tame)
-outcome_tame k s (Fault q e) = still_tame k _ s.core q (search (tame, parts))
-outcome_tame k s (Line l) = search (tame, parts)
+outcome_tame k s (Load q o) = still_tame k _ s.core q (λ t _. let h = faulted_tame k false false s.core q 6 t in search tame)
+outcome_tame k s (Store q o v) = still_tame k _ s.core q (λ t _. let h = faulted_tame k false false s.core q 6 t in search tame)
+outcome_tame k s (Fault q e) = still_tame k _ s.core q (λ t _. search (tame, parts))
+outcome_tame k s (Line l) = let h = line_of_tame k false false s.core (owner k l) 0 (whose k (Line l)) l (owned k l) in search tame
 outcome_tame k s (SystemFault e) =
     let r = system_response k e in
     let c = leb 8 e && ltb e 12 in
@@ -235,3 +253,6 @@ pub tamed : (k : Tables) (s : State) (e : Event) →
     Tame k (author e) (whose k e) (replans k s e) (is_system_fault e || is_cold_reset k e) s.core
     (guard s.core.halted (refused s.core SystemHalted) (outcome k s e))
 tamed k s e = let h = outcome_tame k s e in search tame
+
+pub planned : (k : Tables) (s : State) (e : Event) → Planned k s e
+planned k s e = (tamed k s e).plan

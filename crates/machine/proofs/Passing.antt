@@ -1,20 +1,22 @@
 -- What the passing of time leaves: calm partitions stay calm, the time does not go back, and a plan stays until its frame ends.
 use Rattle.std.proofs.Common.{◌≡◌, ℕ, zero, suc, ◌≤◌, false, refl, ap, ◌∙◌, arith}
 use Rattle.std.proofs.lemmas.Bool.{or_parts, cond-false, cond_both}
+use Rattle.vector.specs.declared.tables.Tables.{Tables}
 use Rattle.vector.specs.Tables.{Plans}
 use Rattle.machine.specs.declared.clock.Clock.{Clock}
 use Rattle.machine.specs.Time.{Timed, rolled, wake_at, micro, micros}
 use Rattle.machine.specs.Laws.{frame_ends, ends_within}
 use Rattle.machine.proofs.Calm.{AllCalm, calm-each, soothes_woken}
 
-micro-calm : (ps : Plans) (x : Timed) → AllCalm x.parts → AllCalm (micro ps x).parts
-unfolding micro wake_at
-micro-calm ps x r = calm-each _ (λ i. soothes_woken _) r
+module _ (k : Tables) (ps : Plans) where
+  micro-calm : (x : Timed) → AllCalm k x.parts → AllCalm k (micro ps x).parts
+  unfolding micro wake_at
+  micro-calm x r = calm-each k _ (λ j i. soothes_woken k j _) r
 
-pub micros-calm : (ps : Plans) (n : ℕ) (x : Timed) → AllCalm x.parts → AllCalm (micros ps n x).parts
-unfolding micros
-micros-calm ps zero x r = r
-micros-calm ps (suc n) x r = micros-calm ps n (micro ps x) (micro-calm ps x r)
+  pub micros-calm : (n : ℕ) (x : Timed) → AllCalm k x.parts → AllCalm k (micros ps n x).parts
+  unfolding micros
+  micros-calm zero x r = r
+  micros-calm (suc n) x r = micros-calm n (micro ps x) (micro-calm x r)
 
 rolled-later : (ps : Plans) (c : Clock) → c.time ≤ (rolled ps c).time
 unfolding rolled

@@ -1,4 +1,4 @@
--- A machine whose halted partitions have nothing pending, whose log is kept, and whose channels are within their room.
+-- A machine whose partitions are calm, whose log is kept, and whose channels are within their room.
 use Rattle.std.proofs.Common.{◌≡◌, ℕ, suc, ◌+◌, ◌<◌, ◌≤◌, Bool, true, false, ◌&&◌, eqb, ltb, leb, List, [], ◌∷◌, ◌++◌, length, get_or, drop, set, replicate, refl, arith, length-append, length-drop, length-take}
 use Rattle.std.proofs.lemmas.Bool.{both_ways, and_parts, leb-true, ltb-true, cond_both}
 use Rattle.queue.specs.Ring.{rest}
@@ -8,10 +8,11 @@ use Rattle.vector.specs.declared.tables.Response.{Response}
 use Rattle.vector.specs.declared.tables.ChannelKind.{ChannelKind}
 use Rattle.vector.specs.declared.tables.ChannelKind.TheVariants.{Sampling, Queuing}
 use Rattle.machine.specs.declared.log.Entry.{Entry}
+use Rattle.machine.specs.declared.partition.Status.TheVariants.{Ready}
 use Rattle.machine.specs.declared.partition.Partition.{Partition}
 use Rattle.machine.specs.Letters.{Letter}
-use Rattle.machine.specs.Partitions.{fresh}
-use Rattle.machine.specs.Questions.{channel_of, channel, same_kind, port, owns}
+use Rattle.machine.specs.Partitions.{nobody, fresh}
+use Rattle.machine.specs.Questions.{exists, link, channel_of, channel, same_kind, port, owns}
 use Rattle.machine.specs.State.{Core, with_clock, with_parts, with_chan, with_log, with_halted, modify}
 use Rattle.machine.specs.Time.{timed, clock_of}
 use Rattle.machine.specs.Faults.{logged, restarted}
@@ -20,7 +21,7 @@ use Rattle.machine.specs.Ports.{usable, sendable, ranged, letter, queue, left, p
 use Rattle.machine.specs.Interrupts.{raised}
 use Rattle.machine.specs.Step.{later, boot}
 use Rattle.machine.specs.Laws.{room_of, room, longest, Sized}
-use Rattle.machine.proofs.Calm.{Soothes, AllCalm, calm-begun, calm-fresh, calm-place, calm-modify, calm-raised, calm-alerted, soothing, set-each, replicate-each}
+use Rattle.machine.proofs.Calm.{Soothes, AllCalm, calm-begun, calm-fresh, calm-ready, calm-place, calm-modify, calm-raised, calm-alerted, soothing, set-each, replicate-each}
 use Rattle.machine.proofs.Kept.{Kept, none_kept, rest-kept, later-kept, over-kept}
 use Rattle.machine.proofs.Passing.{micros-calm, micros-later}
 
@@ -29,12 +30,12 @@ abbrev Holds : Tables → ℕ → List Letter → Type 0
 Holds k c ms = (length ms ≤ room k c) × Sized (longest k c) ms
 
 pub record Sane (k : Tables) (x : Core) : Type 0 where
-  pub parts : AllCalm x.parts
+  pub parts : AllCalm k x.parts
   pub log : Kept x.clock.time x.log
   pub chans : (c : ℕ) → Holds k c (get_or x.chans c [])
 
 empty_holds : (k : Tables) (c : ℕ) → Holds k c (get_or (replicate 8 []) c [])
-empty_holds k c = replicate-each (Holds k c) [] [] 8 c (omega arith, tt) (omega arith, tt)
+empty_holds k c = replicate-each (Holds k c) [] [] 8 c (omega arith, tt) (λ _. (omega arith, tt))
 
 -- the messages that are left, and one more
 rest-holds : (k : Tables) (c : ℕ) (ms : List Letter) → Holds k c ms → Holds k c (rest ms)
@@ -84,17 +85,23 @@ module _ (k : Tables) where
   pub sane_halted : {x : Core} → Sane k x → (b : Bool) → Sane k (with_halted x b)
   sane_halted r b = record { parts = r.parts; log = r.log; chans = r.chans }
 
-  sane_parts : {x : Core} {ps : List Partition} → Sane k x → AllCalm ps → Sane k (with_parts x ps)
+  sane_parts : {x : Core} {ps : List Partition} → Sane k x → AllCalm k ps → Sane k (with_parts x ps)
   sane_parts r h = record { parts = h; log = r.log; chans = r.chans }
 
-  pub sane_modify : {x : Core} → Sane k x → (i : ℕ) (f : Partition → Partition) → Soothes f → Sane k (with_parts x (modify x.parts i f))
-  sane_modify r i f h = sane_parts r (calm-modify r.parts i f h)
+  pub sane_modify : {x : Core} → Sane k x → (i : ℕ) (f : Partition → Partition) → Soothes k i f → Sane k (with_parts x (modify x.parts i f))
+  sane_modify r i f h = sane_parts r (calm-modify k r.parts i f h)
+
+  -- the partition on the processor stays READY, and opens no port
+  pub sane_ready : (x : Core) (i : ℕ) (f : Partition → Partition) → exists k i ≡ true →
+      (f (get_or x.parts i nobody)).status ≡ Ready → (f (get_or x.parts i nobody)).ports ≡ (get_or x.parts i nobody).ports →
+      Sane k x → Sane k (with_parts x (modify x.parts i f))
+  sane_ready x i f t s o r = sane_parts r (calm-place k r.parts i (calm-ready k i (λ _. t) (r.parts.at i) o s))
 
   pub sane_fresh : {x : Core} → Sane k x → (i : ℕ) → Sane k (with_parts x (set x.parts i fresh))
-  sane_fresh r i = sane_parts r (calm-place r.parts i calm-fresh)
+  sane_fresh r i = sane_parts r (calm-place k r.parts i (calm-fresh k i))
 
-  pub sane_raised : {x : Core} → Sane k x → (mask bits n : ℕ) → Sane k (with_parts x (raised mask bits n x.parts))
-  sane_raised r mask bits n = sane_parts r (calm-raised mask bits n r.parts)
+  pub sane_raised : {x : Core} → Sane k x → (q n bits m : ℕ) → Sane k (with_parts x (raised (link k q n) bits m x.parts))
+  sane_raised r q n bits m = sane_parts r (calm-raised k q n bits m r.parts)
 
   sane_log : {x : Core} {es : List Entry} → Sane k x → Kept x.clock.time es → Sane k (with_log x es)
   sane_log r h = record { parts = r.parts; log = h; chans = r.chans }
@@ -104,14 +111,14 @@ module _ (k : Tables) where
       record { parts = r.parts; log = r.log; chans = λ d. set-each (Holds k) [] x.chans c d ms h (r.chans d) }
 
   pub boot_sane : (ms : List (List ℕ)) → Sane k (boot k ms).core
-  boot_sane ms = record { parts = calm-begun; log = none_kept; chans = empty_holds k }
+  boot_sane ms = record { parts = calm-begun k; log = none_kept; chans = empty_holds k }
 
   module _ (x : Core) where
     pub later_sane : (n : ℕ) → Sane k x → Sane k (later k n x)
     later_sane n r =
         let t = timed x.clock x.parts in
         record {
-          parts = micros-calm k.plans n t r.parts;
+          parts = micros-calm k k.plans n t r.parts;
           log = later-kept _ (micros-later k.plans n t) r.log;
           chans = r.chans;
         }
@@ -122,7 +129,7 @@ module _ (k : Tables) where
         cond_both f.log _ _ (Sane k) (λ _. sane_log r (over-kept x.clock.time x.log _ refl r.log)) (λ _. r)
 
     pub restarted_sane : Sane k x → Sane k (restarted x)
-    restarted_sane r = record { parts = calm-begun; log = r.log; chans = empty_holds k }
+    restarted_sane r = record { parts = calm-begun k; log = r.log; chans = empty_holds k }
 
     pub emptied_sane : Sane k x → Sane k (with_log (restarted x) [])
     emptied_sane r = sane_log (restarted_sane r) none_kept
@@ -135,7 +142,7 @@ module _ (k : Tables) where
     left_sane i r = sane_chan r (channel_of k i) (left k x i) (rest-holds k (channel_of k i) (queue k x i) (r.chans (channel_of k i)))
 
     posted_sane : (i : ℕ) (ms : List Letter) → Holds k (channel_of k i) ms → Sane k x → Sane k (posted k x i ms)
-    posted_sane i ms h r = sane_parts (sane_chan r (channel_of k i) ms h) (calm-alerted k (channel_of k i) k.ports.count r.parts)
+    posted_sane i ms h r = sane_parts (sane_chan r (channel_of k i) ms h) (calm-alerted k (channel_of k i) k.ports.count (omega arith) r.parts)
 
     module _ (a : List ℕ) (q : ℕ) (g : List ℕ) where
       pub written_sane : (usable k x q Sampling (arg g 0) && sendable k a g) ≡ true → Sane k x → Sane k (posted k x (arg g 0) (letter x a g ∷ []))

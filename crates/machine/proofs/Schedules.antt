@@ -1,16 +1,14 @@
--- Who is on the processor, and when plans change.
+-- Who is on the processor.
 use Rattle.std.proofs.Common.{◌≡◌, ℕ, true, false, Some, None, Option, sym, refl, ap, ◌∙◌}
 use Rattle.std.proofs.lemmas.Bool.{both_ways, and_parts, eqb-true}
 use Rattle.vector.specs.declared.tables.Tables.{Tables}
 use Rattle.machine.specs.declared.partition.Status.{Status}
 use Rattle.machine.specs.declared.partition.Status.TheVariants.{Halted, Ready, Idle, Suspended}
-use Rattle.machine.specs.declared.event.Event.{Event}
 use Rattle.machine.specs.Partitions.{is_ready}
 use Rattle.machine.specs.Questions.{exists, names}
-use Rattle.machine.specs.State.{Core, State}
+use Rattle.machine.specs.State.{Core}
 use Rattle.machine.specs.Step.{turn, running}
-use Rattle.machine.specs.Laws.{Single, Scheduled, Planned}
-use Rattle.machine.proofs.Outcomes.{tamed}
+use Rattle.machine.specs.Laws.{Single, Scheduled}
 
 named : (o : Option ℕ) (q : ℕ) → names o q ≡ true → o ≡ Some q
 named None q h = absurd (both_ways false refl h)
@@ -33,6 +31,3 @@ some_same q r e = cc
 
 pub single : (k : Tables) (x : Core) → Single k x
 single k x q r g h = some_same q r (sym (scheduled k x q g).slot ∙ (scheduled k x r h).slot)
-
-pub planned : (k : Tables) (s : State) (e : Event) → Planned k s e
-planned k s e = (tamed k s e).plan

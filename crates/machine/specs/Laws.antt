@@ -1,6 +1,6 @@
 -- Laws of the machine, in every state and over all runs.
-use Rattle.std.specs.Prelude.{◌≡◌, ℕ, zero, suc, ◌+◌, ◌-◌, ◌≤◌, Bool, true, false, ◌&&◌, ◌||◌, List, [], ◌∷◌, length, get_or, negsuc, Some, ◌==◌, nat_le, nat_lt, slice_index_or}
-use Rattle.vector.specs.Laws.{channel_at}
+use Rattle.std.specs.Prelude.{◌≡◌, ℕ, zero, suc, ◌+◌, ◌-◌, ◌<◌, ◌≤◌, Bool, true, false, ◌&&◌, ◌||◌, List, [], ◌∷◌, length, get_or, negsuc, Some, ◌==◌, nat_le, nat_lt, slice_index_or}
+use Rattle.vector.specs.Laws.{channel_at, Lawful}
 use Rattle.vector.specs.declared.tables.Tables.{Tables}
 use Rattle.vector.specs.Tables.{Plans}
 use Rattle.vector.specs.declared.tables.ChannelKind.{ChannelKind}
@@ -8,13 +8,13 @@ use Rattle.vector.specs.declared.tables.ChannelKind.TheVariants.{Sampling, Queui
 use Rattle.vector.specs.declared.tables.Action.{Action}
 use Rattle.vector.specs.declared.tables.Action.TheVariants.{Ignore, Signal, Suspend, Halt, WarmReset, ColdReset}
 use Rattle.machine.specs.declared.clock.Clock.{Clock}
-use Rattle.machine.specs.declared.partition.Status.TheVariants.{Halted, Ready}
+use Rattle.machine.specs.declared.partition.Status.TheVariants.{Halted, Ready, Idle}
 use Rattle.machine.specs.declared.event.Event.{Event}
 use Rattle.machine.specs.declared.event.Event.TheVariants.{Tick, Call, Load, Store, Fault, Line, SystemFault}
 use Rattle.machine.specs.declared.log.Entry.{Entry}
 use Rattle.machine.specs.Letters.{Letter}
-use Rattle.machine.specs.Partitions.{nobody}
-use Rattle.machine.specs.Questions.{exists, is_system, plan, slots_of, holder}
+use Rattle.machine.specs.Partitions.{nobody, fresh, hidden, is_open}
+use Rattle.machine.specs.Questions.{exists, is_system, plan, slots_of, holder, port}
 use Rattle.machine.specs.State.{Core, State}
 use Rattle.machine.specs.Time.{plan_at, rolled}
 use Rattle.machine.specs.Faults.{system_response}
@@ -66,15 +66,32 @@ abbrev pub InOrder : List Entry → Type 0
 InOrder [] = Unit {0}
 InOrder (e ∷ es) = Since e.time es × InOrder es
 
--- What every run keeps: for a HALTED partition nothing is pending, the log has at most 32 entries, in the order of their times
+-- i is a port of q
+abbrev pub PortOf : Tables → ℕ → ℕ → Type 0
+PortOf k q i = (i < k.ports.count) × ((port k i).partition ≡ q)
+
+-- What every run keeps: for a HALTED partition nothing is pending, for an IDLE one nothing that its mask does not hide, and
+-- no partition has a port open that is not its own; the log has at most 32 entries, in the order of their times
 -- and none from the future, and no channel holds more messages than it has room for, or a message of another size.
 pub record Bounded (k : Tables) (x : Core) : Type 0 where
   pub halted : (q : ℕ) → (get_or x.parts q nobody).status ≡ Halted → (get_or x.parts q nobody).pending ≡ 0
+  pub idle : (q : ℕ) → (get_or x.parts q nobody).status ≡ Idle → hidden (get_or x.parts q nobody) ≡ true
+  pub own : (q i : ℕ) → is_open i (get_or x.parts q nobody) ≡ true → PortOf k q i
   pub log : length x.log ≤ 32
   pub order : InOrder x.log
   pub past : Until x.clock.time x.log
   pub chans : (c : ℕ) → length (slice_index_or x.chans c []) ≤ room k c
   pub sized : (c : ℕ) → Sized (longest k c) (slice_index_or x.chans c [])
+
+-- The record of a partition that the vector does not have stays as the boot left it,
+abbrev pub Absent : Tables → Core → Type 0
+Absent k x = (q : ℕ) → exists k q ≡ false → q < 8 → get_or x.parts q nobody ≡ fresh
+
+-- .. and each event by itself keeps all of this
+abbrev pub Lasting : Tables → State → Event → Type 0
+Lasting k s e =
+    Bounded k s.core → (Lawful k → Absent k s.core) →
+    Bounded k (step k s e).state.core × (Lawful k → Absent k (step k s e).state.core)
 
 -- does the frame end with the next microsecond
 abbrev pub frame_ends : Plans → Clock → Bool

@@ -1,6 +1,7 @@
 use Rattle.std.proofs.Common.{arith}
 use Rattle.vector.proofs.Fairness.{takes-fair}
 use Rattle.kernel.proofs.Going.{onward, over}
+use Rattle.kernel.proofs.Grounding.{takes-lawful}
 use Rattle.kernel.proofs.Keeping.{isolating, preserving, lawful}
 use Rattle.kernel.proofs.history.play.Goals as goal
 
@@ -15,5 +16,5 @@ returns g c =
       told = z.1;
       isolated = isolating _ _ _ _ _ (takes-fair c.args.vector.bytes.now c.args.vector.ok) z.0 z.1;
       preserved = preserving _ _ _ _ z.0;
-      lawful = lawful _ _ _ _ z.0;
+      lawful = lawful _ _ _ _ (takes-lawful c.args.vector.bytes.now c.args.vector.ok) z.0;
     }
