@@ -18,7 +18,7 @@ abbrev pub executed : Scope → Decision → Tables → Core → Out
 executed (Partition q) d k x = carried d.response.action q (logged (Partition q) d.event d.response x)
 executed System d k x = system_carried k d.response.action (logged System d.event d.response x)
 
--- the partition that a decision concerns; the system counts as none of them
+-- the partition that a decision concerns; one of the system concerns none, and 0 is there a filler that nothing uses
 abbrev pub home : Scope → ℕ
 home (Partition q) = q
 home System = 0

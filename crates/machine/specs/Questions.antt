@@ -96,7 +96,7 @@ same_kind Queuing Queuing = true
 abbrev pub owns : Tables → ℕ → ChannelKind → ℕ → Bool
 owns k q t i = nat_lt i k.ports.count && ((port k i).partition == q && same_kind (channel k i).kind t)
 
--- does port i of the channels c hear of its messages
+-- is port i a destination of channel c
 abbrev pub hears : Tables → ℕ → ℕ → Bool
 hears k c i = channel_of k i == c && not (is_source (port k i).direction)
 

@@ -63,7 +63,8 @@ outcome k s (Fault q e) = gate k s.core q (fault k s.core q e)
 outcome k s (Line l) = line k s.core l
 outcome k s (SystemFault e) = system_fault k s.core e
 
--- whose area an event may write
+-- whose area an event may write; a tick, a line and a system fault write nobody's, and 0 is there a filler that nothing uses
+-- (a cold reset of the system zeroes areas by their numbers)
 abbrev pub author : Event → ℕ
 author (Tick t) = 0
 author (Call q n g) = q
