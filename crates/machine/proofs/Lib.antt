@@ -21,5 +21,7 @@ pub mod Numbered
 pub mod Refusals
 pub mod Calm
 pub mod Names
+pub mod Packing
+pub mod Slots
 pub mod Bounds
 pub mod Schedules

@@ -1,6 +1,6 @@
 -- What is true of the outcome of every event: one walk over the calls, the faults and the rest.
 use Rattle.std.proofs.Common.{◌≡◌, ℕ, ◌-◌, Bool, true, false, ◌&&◌, ◌||◌, eqb, ltb, leb, List, get_or, pos, negsuc, Some, None, Option, Ok, Err, sym, refl, subst, inl, inr, arith}
-use Rattle.std.proofs.lemmas.Bool.{both_ways, or_cases, or_left, eqb-true, cond-true, cond_both}
+use Rattle.std.proofs.lemmas.Bool.{both_ways, and_right, or_cases, or_left, eqb-true, cond-true, cond_both}
 use Rattle.vector.specs.declared.tables.Tables.{Tables}
 use Rattle.vector.specs.declared.tables.Response.{Response}
 use Rattle.vector.specs.declared.record.Scope.{Scope}
@@ -137,7 +137,7 @@ ruleset parts = (faulted_tame, sampled_tame, taken_tame, read_tame)
 sought-own : (k : Tables) (a : List ℕ) (q : ℕ) (t : ChannelKind) (g : List ℕ) (i : ℕ) → sought k a q t g ≡ Some i → PortOf k q i
 sought-own k a q t g i =
     cond_both (nameable a g) _ _ (λ o. o ≡ Some i → PortOf k q i)
-    (λ _. named-own k q t _ i k.ports.count)
+    (λ _. named-own k q t _ i)
     (λ _ (e : ◌≡◌ {A = Option ℕ} None (Some i)). absurd (none-not i e))
 
 -- a call of this number: a system partition's system reset replans, and its cold reset reaches others
@@ -215,16 +215,12 @@ gate_tame k b c x q {u} h =
     (subst (λ o. Tame k q o b c x u) (sym (cond-true (exists k q) (Some q) None w.there)) (h w.there w.ready)))
     (λ _. search tame)
 
-and-false : (b : Bool) → (b && false) ≡ false
-and-false true = refl
-and-false false = refl
-
 -- .. and where the event itself does not replan
 still_tame : (k : Tables) (c : Bool) (x : Core) (q : ℕ) {u : Out} →
     (exists k q ≡ true → (get_or x.parts q nobody).status ≡ Ready → Tame k q (Some q) false c x u) →
     Tame k q (existing k q) false c x (gate k x q u)
 still_tame k c x q {u} h =
-    subst (λ b. Tame k q (existing k q) b c x (gate k x q u)) (and-false (running k x q)) (gate_tame k false c x q h)
+    subst (λ b. Tame k q (existing k q) b c x (gate k x q u)) (and_right (running k x q) false refl) (gate_tame k false c x q h)
 
 outcome_tame : (k : Tables) (s : State) (e : Event) →
     Tame k (author e) (whose k e) (replans k s e) (is_system_fault e || is_cold_reset k e) s.core (outcome k s e)

@@ -18,3 +18,5 @@ pub mod Isolation
 pub mod Integrity
 pub mod Examples
 pub mod Laws
+pub mod Searches
+pub mod Packing
