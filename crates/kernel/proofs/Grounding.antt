@@ -30,5 +30,5 @@ module _ (t : Tables) (s : Sound t) where
   pub started : Timely t.plans (clock_of 0 0 0 0)
   started = let f = (s.2.2 0 (omega (arith, s.2.0))).0 in (omega (arith, s.2.0), omega (arith, s.2.0), omega arith, omega (arith, f))
 
-pub takes-lawful : (bs : List ℕ) → takes bs ≡ true → Lawful (tables bs)
-takes-lawful bs e = let o = taken-read bs e in subst Lawful o.1.1 (read-lawful bs o.0 o.1.0).1
+pub takes-lawful : (bs : List ℕ) → takes bs ≡ true → Sound (tables bs) × Lawful (tables bs)
+takes-lawful bs e = let o = taken-read bs e in subst (λ t. Sound t × Lawful t) o.1.1 (read-lawful bs o.0 o.1.0)

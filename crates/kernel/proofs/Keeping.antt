@@ -7,21 +7,22 @@ use Rattle.vector.specs.declared.tables.Direction.{Direction}
 use Rattle.vector.specs.declared.tables.Direction.TheVariants.{Source, Destination}
 use Rattle.vector.specs.Fair.{Fair}
 use Rattle.vector.specs.Laws as vector
+use Rattle.vector.specs.Sound.{Sound}
 use Rattle.machine.specs.declared.event.Event.{Event}
 use Rattle.machine.specs.declared.answer.Reply.{Reply}
 use Rattle.machine.specs.Questions.{is_source, same_kind}
-use Rattle.machine.specs.State.{State, area}
+use Rattle.machine.specs.State.{Core, State, area}
 use Rattle.machine.specs.Step.{step, boot}
 use Rattle.machine.specs.Runs.{Line, after, lines}
 use Rattle.machine.specs.Isolation as machine
 use Rattle.machine.specs.Isolation.{kept, is_of, Sight, sight, sights, Sheet, sheet, answers_to}
 use Rattle.machine.proofs.Theorem.{isolated}
-use Rattle.machine.specs.Laws.{Bounded, Absent}
+use Rattle.machine.specs.Laws.{Steady}
 use Rattle.machine.proofs.Integrity.{integral, preserved}
 use Rattle.machine.proofs.Refusals.{unmoved}
-use Rattle.machine.proofs.Schedules.{single, scheduled}
+use Rattle.machine.proofs.Schedules.{single, scheduled, served}
 use Rattle.machine.proofs.Outcomes.{planned}
-use Rattle.machine.proofs.Bounds.{bounded, absent}
+use Rattle.machine.proofs.Bounds.{steady}
 use Rattle.kernel.specs.World.{World, Moved, gives, stepped, ended}
 use Rattle.kernel.specs.Promises.{picked, Isolating, Apart, Unmoved, Planned, Lawful, Preserving}
 
@@ -92,11 +93,18 @@ unmoved-by w v e r m n c =
 pub planned-by : (w v : World) (e : Event) (r : Reply) → gives v r ≡ stepped e w → Planned e w v
 planned-by w v e r m h = ap (λ (u : Moved). u.result.state.core.clock.plan) m ∙ planned w.tables w.state e h
 
-pub lawful : (k : Tables) (ms : List (List ℕ)) (h : List Event) (w : World) → vector.Lawful k → w ≡ ended k ms h → Lawful k w.state.core
-lawful k ms h w l e =
-    record {
-      bounded = subst (λ (u : World). Bounded k u.state.core) (sym e) (bounded k ms h);
-      absent = subst (λ (u : World). Absent k u.state.core) (sym e) (absent k l ms h);
-      single = single k w.state.core;
-      scheduled = scheduled k w.state.core;
-    }
+module _ (k : Tables) (f : Sound k) (l : vector.Lawful k) where
+  lawful-steady : (x : Core) → Steady k x → Lawful k x
+  lawful-steady x r =
+      let p = r.plans f.2.0 in
+      record {
+        bounded = r.bounded;
+        plans = p;
+        absent = r.absent l;
+        single = single k x;
+        scheduled = scheduled k x;
+        served = served k x l p;
+      }
+
+  pub lawful : (ms : List (List ℕ)) (h : List Event) (w : World) → w ≡ ended k ms h → Lawful k w.state.core
+  lawful ms h w e = subst (λ (u : World). Lawful k u.state.core) (sym e) (lawful-steady _ (steady k ms h))

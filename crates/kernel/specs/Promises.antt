@@ -7,7 +7,7 @@ use Rattle.machine.specs.declared.answer.Reply.{Reply}
 use Rattle.machine.specs.Questions.{exists, is_system}
 use Rattle.machine.specs.State.{Core, State, area}
 use Rattle.machine.specs.Step.{boot, fits, running}
-use Rattle.machine.specs.Laws.{Bounded, Absent, Single, Scheduled, replans}
+use Rattle.machine.specs.Laws.{Bounded, PlansThere, Absent, Single, Scheduled, Served, replans}
 use Rattle.kernel.specs.World.{World, ended}
 use Rattle.machine.specs.Runs.{Line, after, lines}
 use Rattle.machine.specs.Circle.{Circle}
@@ -46,13 +46,15 @@ abbrev pub Planned : Event → World → World → Type 0
 Planned e w v = replans w.tables w.state e ≡ false → v.state.core.clock.plan ≡ w.state.core.clock.plan
 
 -- what holds of every system that was run: nothing is pending for a HALTED partition, and nothing that its mask does not hide for an
--- IDLE one; open ports are the partition's own; log and channels keep within their bounds; a partition that the vector does not have
--- is as the boot left it; and at most one partition is on the processor, READY and with its slot running
+-- IDLE one; open ports are the partition's own; log and channels keep within their bounds; both plans are the vector's; a partition that
+-- the vector does not have is as the boot left it; and at most one partition is on the processor: the READY one whose slot runs
 pub record Lawful (k : Tables) (x : Core) : Type 0 where
   pub bounded : Bounded k x
+  pub plans : PlansThere k x
   pub absent : Absent k x
   pub single : Single k x
   pub scheduled : (q : ℕ) → running k x q ≡ true → Scheduled k x q
+  pub served : Served k x
 
 -- a history that found the areas ms and left ns: an area that none of its events reaches is as it was
 abbrev pub Preserving : Tables → List Event → List (List ℕ) → List (List ℕ) → Type 0

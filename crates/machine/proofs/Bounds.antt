@@ -1,51 +1,53 @@
--- What no run leaves: calm partitions, a log of at most 32 entries, channels within their room.
+-- What no event leaves: plans that are there, calm partitions, a log of at most 32 entries, channels within their room.
 use Rattle.std.proofs.Common.{ℕ, List, [], ◌∷◌}
-use Rattle.vector.specs.Laws.{Lawful}
 use Rattle.vector.specs.declared.tables.Tables.{Tables}
 use Rattle.machine.specs.declared.event.Event.{Event}
 use Rattle.machine.specs.State.{Core, State}
 use Rattle.machine.specs.Step.{step, boot}
 use Rattle.machine.specs.Runs.{after}
-use Rattle.machine.specs.Laws.{Bounded, Absent, Lasting}
+use Rattle.machine.specs.Laws.{Steady, Lasting}
 use Rattle.machine.proofs.Sane.{Sane, boot_sane}
 use Rattle.machine.proofs.Outcomes.{tamed}
 
-sane-bounded : (k : Tables) (x : Core) → Sane k x → Bounded k x
-sane-bounded k x r =
+steady-sane : (k : Tables) (x : Core) → Steady k x → Sane k x
+steady-sane k x r =
+    let b = r.bounded in
     record {
-      halted = λ q. (r.parts.at q).none;
-      idle = λ q. (r.parts.at q).idle;
-      own = λ q. (r.parts.at q).own;
-      log = r.log.few;
-      order = r.log.order;
-      past = r.log.past;
-      chans = λ c. (r.chans c).0;
-      sized = λ c. (r.chans c).1;
-    }
-
-sane-absent : (k : Tables) (x : Core) → Sane k x → Lawful k → Absent k x
-sane-absent k x r w q = (r.parts.at q).absent w
-
-bounded-sane : (k : Tables) (x : Core) → Bounded k x → (Lawful k → Absent k x) → Sane k x
-bounded-sane k x b a =
-    record {
-      parts = record { at = λ q. record { none = b.halted q; idle = b.idle q; own = b.own q; absent = λ w. a w q } };
+      plans = r.plans;
+      parts = record { at = λ q. record { none = b.halted q; idle = b.idle q; own = b.own q; absent = λ w. r.absent w q } };
       log = record { few = b.log; order = b.order; past = b.past };
       chans = λ c. (b.chans c, b.sized c);
     }
 
+sane-steady : (k : Tables) (x : Core) → Sane k x → Steady k x
+sane-steady k x r =
+    record {
+      bounded =
+          record {
+            halted = λ q. (r.parts.at q).none;
+            idle = λ q. (r.parts.at q).idle;
+            own = λ q. (r.parts.at q).own;
+            log = r.log.few;
+            order = r.log.order;
+            past = r.log.past;
+            chans = λ c. (r.chans c).0;
+            sized = λ c. (r.chans c).1;
+          };
+      plans = r.plans;
+      absent = λ w q. (r.parts.at q).absent w;
+    }
+
 pub lasting : (k : Tables) (s : State) (e : Event) → Lasting k s e
-lasting k s e b a =
-    let r = (tamed k s e).sane (bounded-sane k s.core b a) in
-    (sane-bounded k (step k s e).state.core r, sane-absent k (step k s e).state.core r)
+lasting k s e r = sane-steady k _ ((tamed k s e).sane (steady-sane k s.core r))
 
-after_sane : (k : Tables) (s : State) → Sane k s.core → (h : List Event) → Sane k (after k s h).core
+-- so does a history from the boot on
+pub booted : (k : Tables) (ms : List (List ℕ)) → Steady k (boot k ms).core
+booted k ms = sane-steady k _ (boot_sane k ms)
+
+after-steady : (k : Tables) (s : State) → Steady k s.core → (h : List Event) → Steady k (after k s h).core
 unfolding after
-after_sane k s r [] = r
-after_sane k s r (e ∷ es) = after_sane k (step k s e).state ((tamed k s e).sane r) es
+after-steady k s r [] = r
+after-steady k s r (e ∷ es) = after-steady k (step k s e).state (lasting k s e r) es
 
-pub bounded : (k : Tables) (ms : List (List ℕ)) (h : List Event) → Bounded k (after k (boot k ms) h).core
-bounded k ms h = sane-bounded k _ (after_sane k (boot k ms) (boot_sane k ms) h)
-
-pub absent : (k : Tables) → Lawful k → (ms : List (List ℕ)) (h : List Event) → Absent k (after k (boot k ms) h).core
-absent k w ms h = sane-absent k _ (after_sane k (boot k ms) (boot_sane k ms) h) w
+pub steady : (k : Tables) (ms : List (List ℕ)) (h : List Event) → Steady k (after k (boot k ms) h).core
+steady k ms h = after-steady k (boot k ms) (booted k ms) h

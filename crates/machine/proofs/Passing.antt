@@ -1,5 +1,5 @@
 -- What the passing of time leaves: calm partitions stay calm, the time does not go back, and a plan stays until its frame ends.
-use Rattle.std.proofs.Common.{◌≡◌, ℕ, zero, suc, ◌≤◌, false, refl, ap, ◌∙◌, arith}
+use Rattle.std.proofs.Common.{◌≡◌, ℕ, zero, suc, ◌<◌, ◌≤◌, false, refl, ap, ◌∙◌, arith}
 use Rattle.std.proofs.lemmas.Bool.{or_parts, cond-false, cond_both}
 use Rattle.vector.specs.declared.tables.Tables.{Tables}
 use Rattle.vector.specs.Tables.{Plans}
@@ -40,3 +40,16 @@ micros-plan ps zero x e = refl
 micros-plan ps (suc n) x e =
     let u = or_parts (frame_ends ps x.clock) _ e in
     micros-plan ps n (micro ps x) u.1 ∙ rolled-plan ps x.clock u.0
+
+-- the plan in force and the next one are there
+abbrev There : Plans → Clock → Type 0
+There ps c = (c.plan < ps.count) × (c.next < ps.count)
+
+rolled-there : (ps : Plans) (c : Clock) → There ps c → There ps (rolled ps c)
+unfolding rolled
+rolled-there ps c h = cond_both (frame_ends ps c) _ _ (There ps) (λ _. (h.1, h.1)) (λ _. h)
+
+pub micros-there : (ps : Plans) (n : ℕ) (x : Timed) → There ps x.clock → There ps (micros ps n x).clock
+unfolding micros micro
+micros-there ps zero x h = h
+micros-there ps (suc n) x h = micros-there ps n (micro ps x) (rolled-there ps x.clock h)

@@ -1,4 +1,4 @@
--- A machine whose partitions are calm, whose log is kept, and whose channels are within their room.
+-- A machine whose plans are there, whose partitions are calm, whose log is kept, and whose channels are within their room.
 use Rattle.std.proofs.Common.{◌≡◌, ℕ, suc, ◌+◌, ◌<◌, ◌≤◌, Bool, true, false, ◌&&◌, eqb, ltb, leb, List, [], ◌∷◌, ◌++◌, length, get_or, drop, set, replicate, refl, arith, length-append, length-drop, length-take}
 use Rattle.std.proofs.lemmas.Bool.{both_ways, and_parts, leb-true, ltb-true, cond_both}
 use Rattle.queue.specs.Ring.{rest}
@@ -20,16 +20,17 @@ use Rattle.machine.specs.Management.{arg}
 use Rattle.machine.specs.Ports.{usable, sendable, ranged, letter, queue, left, posted}
 use Rattle.machine.specs.Interrupts.{raised}
 use Rattle.machine.specs.Step.{later, boot}
-use Rattle.machine.specs.Laws.{room_of, room, longest, Sized}
+use Rattle.machine.specs.Laws.{room_of, room, longest, Sized, PlansThere}
 use Rattle.machine.proofs.Calm.{Soothes, AllCalm, calm-begun, calm-fresh, calm-ready, calm-place, calm-modify, calm-raised, calm-alerted, soothing, set-each, replicate-each}
 use Rattle.machine.proofs.Kept.{Kept, none_kept, rest-kept, later-kept, over-kept}
-use Rattle.machine.proofs.Passing.{micros-calm, micros-later}
+use Rattle.machine.proofs.Passing.{micros-calm, micros-later, micros-there}
 
 -- what a channel may hold
 abbrev Holds : Tables → ℕ → List Letter → Type 0
 Holds k c ms = (length ms ≤ room k c) × Sized (longest k c) ms
 
 pub record Sane (k : Tables) (x : Core) : Type 0 where
+  pub plans : 1 ≤ k.plans.count → PlansThere k x
   pub parts : AllCalm k x.parts
   pub log : Kept x.clock.time x.log
   pub chans : (c : ℕ) → Holds k c (get_or x.chans c [])
@@ -78,15 +79,16 @@ letter-sized k x a q t g e =
     (omega arith, omega arith)
 
 module _ (k : Tables) where
-  -- another plan, at the same time
-  pub sane_clock : {x : Core} → Sane k x → (p n f : ℕ) → Sane k (with_clock x (clock_of x.clock.time p n f))
-  sane_clock r p n f = record { parts = r.parts; log = r.log; chans = r.chans }
+  -- another plan to come
+  pub sane_clock : {x : Core} → Sane k x → (n : ℕ) → ltb n k.plans.count ≡ true →
+      Sane k (with_clock x (clock_of x.clock.time x.clock.plan n x.clock.start))
+  sane_clock r n h = record { plans = λ l. ((r.plans l).0, ltb-true _ _ h); parts = r.parts; log = r.log; chans = r.chans }
 
   pub sane_halted : {x : Core} → Sane k x → (b : Bool) → Sane k (with_halted x b)
-  sane_halted r b = record { parts = r.parts; log = r.log; chans = r.chans }
+  sane_halted r b = record { plans = r.plans; parts = r.parts; log = r.log; chans = r.chans }
 
   sane_parts : {x : Core} {ps : List Partition} → Sane k x → AllCalm k ps → Sane k (with_parts x ps)
-  sane_parts r h = record { parts = h; log = r.log; chans = r.chans }
+  sane_parts r h = record { plans = r.plans; parts = h; log = r.log; chans = r.chans }
 
   pub sane_modify : {x : Core} → Sane k x → (i : ℕ) (f : Partition → Partition) → Soothes k i f → Sane k (with_parts x (modify x.parts i f))
   sane_modify r i f h = sane_parts r (calm-modify k r.parts i f h)
@@ -104,20 +106,21 @@ module _ (k : Tables) where
   sane_raised r q n bits m = sane_parts r (calm-raised k q n bits m r.parts)
 
   sane_log : {x : Core} {es : List Entry} → Sane k x → Kept x.clock.time es → Sane k (with_log x es)
-  sane_log r h = record { parts = r.parts; log = h; chans = r.chans }
+  sane_log r h = record { plans = r.plans; parts = r.parts; log = h; chans = r.chans }
 
   sane_chan : {x : Core} → Sane k x → (c : ℕ) (ms : List Letter) → Holds k c ms → Sane k (with_chan x c ms)
   sane_chan {x} r c ms h =
-      record { parts = r.parts; log = r.log; chans = λ d. set-each (Holds k) [] x.chans c d ms h (r.chans d) }
+      record { plans = r.plans; parts = r.parts; log = r.log; chans = λ d. set-each (Holds k) [] x.chans c d ms h (r.chans d) }
 
   pub boot_sane : (ms : List (List ℕ)) → Sane k (boot k ms).core
-  boot_sane ms = record { parts = calm-begun k; log = none_kept; chans = empty_holds k }
+  boot_sane ms = record { plans = λ l. (omega arith, omega arith); parts = calm-begun k; log = none_kept; chans = empty_holds k }
 
   module _ (x : Core) where
     pub later_sane : (n : ℕ) → Sane k x → Sane k (later k n x)
     later_sane n r =
         let t = timed x.clock x.parts in
         record {
+          plans = λ l. micros-there k.plans n t (r.plans l);
           parts = micros-calm k k.plans n t r.parts;
           log = later-kept _ (micros-later k.plans n t) r.log;
           chans = r.chans;
@@ -129,7 +132,7 @@ module _ (k : Tables) where
         cond_both f.log _ _ (Sane k) (λ _. sane_log r (over-kept x.clock.time x.log _ refl r.log)) (λ _. r)
 
     pub restarted_sane : Sane k x → Sane k (restarted x)
-    restarted_sane r = record { parts = calm-begun k; log = r.log; chans = empty_holds k }
+    restarted_sane r = record { plans = λ l. (omega arith, omega arith); parts = calm-begun k; log = r.log; chans = empty_holds k }
 
     pub emptied_sane : Sane k x → Sane k (with_log (restarted x) [])
     emptied_sane r = sane_log (restarted_sane r) none_kept

@@ -1,6 +1,6 @@
 -- Laws of the machine, in every state and over all runs.
 use Rattle.std.specs.Prelude.{◌≡◌, ℕ, zero, suc, ◌+◌, ◌-◌, ◌<◌, ◌≤◌, Bool, true, false, ◌&&◌, ◌||◌, List, [], ◌∷◌, length, get_or, negsuc, Some, ◌==◌, nat_le, nat_lt, slice_index_or}
-use Rattle.vector.specs.Laws.{channel_at, Lawful}
+use Rattle.vector.specs.Laws.{channel_at, slot_at, Lawful}
 use Rattle.vector.specs.declared.tables.Tables.{Tables}
 use Rattle.vector.specs.Tables.{Plans}
 use Rattle.vector.specs.declared.tables.ChannelKind.{ChannelKind}
@@ -15,6 +15,7 @@ use Rattle.machine.specs.declared.log.Entry.{Entry}
 use Rattle.machine.specs.Letters.{Letter}
 use Rattle.machine.specs.Partitions.{nobody, fresh, hidden, is_open}
 use Rattle.machine.specs.Questions.{exists, is_system, plan, slots_of, holder, port}
+use Rattle.machine.specs.Searches.{RunsAt}
 use Rattle.machine.specs.State.{Core, State}
 use Rattle.machine.specs.Time.{plan_at, rolled}
 use Rattle.machine.specs.Faults.{system_response}
@@ -29,11 +30,20 @@ Unmoved k s e = (n : ℕ) → (step k s e).reply.code ≡ negsuc n → (step k s
 abbrev pub Single : Tables → Core → Type 0
 Single k x = (q r : ℕ) → running k x q ≡ true → running k x r ≡ true → q ≡ r
 
+-- slot j of the plan in force runs, and is of partition q
+abbrev pub SlotRuns : Tables → Core → ℕ → ℕ → Type 0
+SlotRuns k x q j = RunsAt (plan k x.clock.plan) j (x.clock.time - x.clock.start) × ((slot_at j (plan k x.clock.plan)).partition ≡ q)
+
 -- Who is on the processor exists, is READY, and its slot runs.
 pub record Scheduled (k : Tables) (x : Core) (q : ℕ) : Type 0 where
   pub there : exists k q ≡ true
   pub ready : (get_or x.parts q nobody).status ≡ Ready
   pub slot : holder (slots_of (plan k x.clock.plan)) (x.clock.time - x.clock.start) ≡ Some q
+  pub runs : (j : ℕ) × SlotRuns k x q j
+
+-- The partition whose slot runs is on the processor if it is READY.
+abbrev pub Served : Tables → Core → Type 0
+Served k x = (q j : ℕ) → SlotRuns k x q j → (get_or x.parts q nobody).status ≡ Ready → running k x q ≡ true
 
 -- how many messages a channel holds at most: one, or its depth
 abbrev pub room_of : ChannelKind → ℕ → ℕ
@@ -83,15 +93,23 @@ pub record Bounded (k : Tables) (x : Core) : Type 0 where
   pub chans : (c : ℕ) → length (slice_index_or x.chans c []) ≤ room k c
   pub sized : (c : ℕ) → Sized (longest k c) (slice_index_or x.chans c [])
 
--- The record of a partition that the vector does not have stays as the boot left it,
+-- the plan in force and the next one are plans of the vector
+abbrev pub PlansThere : Tables → Core → Type 0
+PlansThere k x = (x.clock.plan < k.plans.count) × (x.clock.next < k.plans.count)
+
+-- the record of a partition that the vector does not have stays as the boot left it
 abbrev pub Absent : Tables → Core → Type 0
 Absent k x = (q : ℕ) → exists k q ≡ false → q < 8 → get_or x.parts q nobody ≡ fresh
 
--- .. and each event by itself keeps all of this
+-- all of this, on the tables of a vector that is taken
+pub record Steady (k : Tables) (x : Core) : Type 0 where
+  pub bounded : Bounded k x
+  pub plans : 1 ≤ k.plans.count → PlansThere k x
+  pub absent : Lawful k → Absent k x
+
+-- An event keeps it.
 abbrev pub Lasting : Tables → State → Event → Type 0
-Lasting k s e =
-    Bounded k s.core → (Lawful k → Absent k s.core) →
-    Bounded k (step k s e).state.core × (Lawful k → Absent k (step k s e).state.core)
+Lasting k s e = Steady k s.core → Steady k (step k s e).state.core
 
 -- does the frame end with the next microsecond
 abbrev pub frame_ends : Plans → Clock → Bool

@@ -11,10 +11,11 @@ loop-exchange-preserved g c = onward _ _ _ _ _ _ _ _ (omega arith) c.event-excha
 pub returns : goal.returns
 returns g c =
     let z = over _ _ _ _ _ _ _ c.boot-system.ensures (omega arith) c.loop-exchange.invariant in
+    let w = takes-lawful c.args.vector.bytes.now c.args.vector.ok in
     record {
       ends = z.0;
       told = z.1;
       isolated = isolating _ _ _ _ _ (takes-fair c.args.vector.bytes.now c.args.vector.ok) z.0 z.1;
       preserved = preserving _ _ _ _ z.0;
-      lawful = lawful _ _ _ _ (takes-lawful c.args.vector.bytes.now c.args.vector.ok) z.0;
+      lawful = lawful _ w.0 w.1 _ _ _ z.0;
     }
