@@ -1,5 +1,5 @@
 -- Eight fences: parts of one memory, apart from one another.
-use Rattle.std.specs.Prelude.{ℕ, ◌+◌, Bool, ◌&&◌, ◌||◌, List, map, take, drop, ◌==◌, nat_le, slice_index_or}
+use Rattle.std.specs.Prelude.{ℕ, ◌+◌, Bool, ◌&&◌, ◌||◌, List, map, take, drop, replicate, if◌then◌else◌, ◌==◌, nat_le, slice_index_or}
 use Rattle.boards.specs.declared.fence.Fence.{Fence}
 use Rattle.boards.specs.Below.{all_below}
 
@@ -38,6 +38,10 @@ good_fence fences n i = within n (fence_of fences i) && all_below (apart_at fenc
 -- all eight fences are good in a memory of n bytes
 abbrev pub sound_fences : List Fence → ℕ → Bool
 sound_fences fences n = all_below (good_fence fences n) 8
+
+-- the fences that a board takes: the given ones where they are sound, else eight empty ones
+abbrev pub taken_fences : List Fence → ℕ → List Fence
+taken_fences fences n = if sound_fences fences n then fences else replicate 8 nowhere
 
 -- where byte `at` of area i lies
 abbrev pub fence_place : List Fence → ℕ → ℕ → ℕ

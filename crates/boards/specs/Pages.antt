@@ -1,5 +1,5 @@
 -- Areas of up to 16 pages of 64 bytes, found through a page table.
-use Rattle.std.specs.Prelude.{◌≡◌, ℕ, ◌+◌, ◌*◌, ◌/◌, ◌%◌, Bool, not, ◌&&◌, ◌||◌, List, map, replicate, length, ◌==◌, nat_le, nat_lt, slice_index, slice_index_or}
+use Rattle.std.specs.Prelude.{◌≡◌, ℕ, ◌+◌, ◌*◌, ◌/◌, ◌%◌, Bool, not, ◌&&◌, ◌||◌, List, map, replicate, length, if◌then◌else◌, ◌==◌, nat_le, nat_lt, slice_index, slice_index_or}
 use Rattle.std.specs.List.{list_all, range_with_len}
 use Rattle.std.proofs.lemmas.List.FromFn.{length-map-range_with_len}
 use Rattle.boards.specs.declared.pages.Pages.{Pages}
@@ -65,3 +65,7 @@ fits pages = nat_le pages.size 1024
 -- all 128 entries are good, and all eight areas fit
 abbrev pub sound_pages : List Pages → ℕ → Bool
 sound_pages table n = all_below (good_entry table n) 128 && list_all fits table
+
+-- the pages that a board takes: the given ones where they are sound, else none for any area
+abbrev pub taken_pages : List Pages → ℕ → List Pages
+taken_pages table n = if sound_pages table n then table else replicate 8 no_pages

@@ -1,6 +1,6 @@
 //! A board whose areas are fenced parts of a memory of its own.
 ghost use Rattle.std.specs.Prelude.{◌≡◌, true, [], length, replicate, if◌then◌else◌};
-ghost use Rattle.boards.specs.Fences.{nowhere, parts, sound_fences, fence_size, fence_place};
+ghost use Rattle.boards.specs.Fences.{parts, sound_fences, taken_fences, fence_size, fence_place};
 ghost use Rattle.boards.specs.Places.{LayoutLaws};
 
 use crate::fence::Fence;
@@ -20,7 +20,7 @@ pub struct Fences<const N: usize> {
 impl<const N: usize> Fences<N> {
     // Fences that are not sound become eight empty ones.
     fn new(fences: [Fence; 8]) -> Fences<N>
-        ensures { result.fences ≡ (if sound_fences fences N then fences else replicate 8 nowhere) }
+        ensures { result.fences ≡ taken_fences fences N }
     {
         if !are_sound(&fences, N) {
             return Fences {
@@ -56,7 +56,9 @@ impl<const N: usize> Laid<Fences<N>, N> {
     /// The areas are the parts of the memory that the fences name. Fences that overlap, are larger than 1,024 bytes
     /// or pass the memory's end leave all eight areas empty. A fence of no bytes may have any base.
     pub fn new(memory: [u8; N], fences: [Fence; 8]) -> Fenced<N>
-        ensures { parts result.memory result.layout.fences ≡ (if sound_fences fences N then parts memory.entry fences else replicate 8 []) }
+        ensures memory { result.memory ≡ memory.entry }
+        ensures fences { result.layout.fences ≡ taken_fences fences N }
+        ensures areas { parts result.memory result.layout.fences ≡ (if sound_fences fences N then parts memory.entry fences else replicate 8 []) }
     {
         Laid::with_layout(memory, Fences::new(fences))
     }

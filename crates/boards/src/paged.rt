@@ -1,6 +1,6 @@
 //! A board whose areas are made of pages of a memory of its own.
 ghost use Rattle.std.specs.Prelude.{◌≡◌, true, [], length, replicate, if◌then◌else◌};
-ghost use Rattle.boards.specs.Pages.{no_pages, paged, sound_pages, paged_place, paged_size};
+ghost use Rattle.boards.specs.Pages.{paged, sound_pages, taken_pages, paged_place, paged_size};
 ghost use Rattle.boards.specs.Places.{LayoutLaws};
 
 use crate::laid::Laid;
@@ -20,7 +20,7 @@ pub struct PageTable<const N: usize> {
 impl<const N: usize> PageTable<N> {
     // Pages that are not sound become none: all areas are then empty.
     fn new(areas: [Pages; 8]) -> PageTable<N>
-        ensures { result.areas ≡ (if sound_pages areas N then areas else replicate 8 no_pages) }
+        ensures { result.areas ≡ taken_pages areas N }
     {
         if !is_sound(&areas, N) {
             let none = Pages {
@@ -58,7 +58,9 @@ impl<const N: usize> Laid<PageTable<N>, N> {
     /// An area's bytes are those of its pages in turn, as far as its size reaches; further pages are not looked at.
     /// A used page that is met twice or passes the memory's end, or a size above 1,024, leaves all eight areas empty.
     pub fn new(memory: [u8; N], areas: [Pages; 8]) -> Paged<N>
-        ensures { paged result.memory result.layout.areas ≡ (if sound_pages areas N then paged memory.entry areas else replicate 8 []) }
+        ensures memory { result.memory ≡ memory.entry }
+        ensures pages { result.layout.areas ≡ taken_pages areas N }
+        ensures areas { paged result.memory result.layout.areas ≡ (if sound_pages areas N then paged memory.entry areas else replicate 8 []) }
     {
         Laid::with_layout(memory, PageTable::new(areas))
     }

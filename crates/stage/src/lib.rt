@@ -1,7 +1,7 @@
 //! The boards that a system starts on: areas of the vector's sizes, all zeros.
 #![tactic(auto)]
 
-ghost use Rattle.std.specs.Prelude.{◌≡◌, ◌<◌, ◌≤◌, true};
+ghost use Rattle.std.specs.Prelude.{◌≡◌, ◌<◌, ◌≤◌, true, replicate};
 ghost use Rattle.vector.specs.Laws.{AreasSized};
 ghost use Rattle.machine.specs.Step.{fits};
 ghost use Rattle.boards.specs.Fences.{parts};
@@ -79,6 +79,8 @@ pub fn pages(sizes: &[usize; 8]) -> [Pages; 8]
 pub fn fenced(tables: &Tables) -> Fenced<ROOM>
     requires few { tables.now.partitions.count ≤ 8 }
     requires sized { AreasSized tables.now }
+    ensures memory { result.memory ≡ replicate 8192 0 }
+    ensures fences { result.layout.fences ≡ fences_of (sizes_of tables.now) }
     ensures areas { parts result.memory result.layout.fences ≡ zeroed tables.now }
     ensures fitting { fits tables.now (zeroed tables.now) ≡ true }
 {
@@ -89,6 +91,8 @@ pub fn fenced(tables: &Tables) -> Fenced<ROOM>
 pub fn paged(tables: &Tables) -> Paged<ROOM>
     requires few { tables.now.partitions.count ≤ 8 }
     requires sized { AreasSized tables.now }
+    ensures memory { result.memory ≡ replicate 8192 0 }
+    ensures pages { result.layout.areas ≡ pages_of (sizes_of tables.now) }
     ensures areas { paged_areas result.memory result.layout.areas ≡ zeroed tables.now }
     ensures fitting { fits tables.now (zeroed tables.now) ≡ true }
 {
