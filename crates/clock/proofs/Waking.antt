@@ -124,10 +124,13 @@ wake_join ss a b c ps l m = wake_both ss a b b c a c ps (λ o. grind (arith, nat
 pub wake-within : (ss : List Slot) (a b c : ℕ) (ps : List Partition) → b ≤ c → wake ss a b (wake ss a c ps) ≡ wake ss a c ps
 wake-within ss a b c ps l = wake_both ss a c a b a c ps (λ o. grind (arith, nat_tests))
 
-pub wake-none : (ss : List Slot) (a b : ℕ) (ps : List Partition) → b ≤ a → wake ss a b ps ≡ ps
+-- where no slot starts nothing wakes
+pub wake-calm : (ss : List Slot) (a b : ℕ) (ps : List Partition) → ((q : ℕ) → starts ss a b q ≡ false) → wake ss a b ps ≡ ps
 unfolding wake
-wake-none ss a b ps l =
-    each_none (wakes_in ss a b) 0 ps (λ q p m. ap (λ z. woken z p) (starts_none ss a b q (λ o. grind (arith, nat_tests))))
+wake-calm ss a b ps h = each_none (wakes_in ss a b) 0 ps (λ q p m. ap (λ z. woken z p) (h q))
+
+pub wake-none : (ss : List Slot) (a b : ℕ) (ps : List Partition) → b ≤ a → wake ss a b ps ≡ ps
+wake-none ss a b ps l = wake-calm ss a b ps (λ q. starts_none ss a b q (λ o. grind (arith, nat_tests)))
 
 -- a microsecond's waking is that of a range of one offset
 pub wake-one : (ss : List Slot) (o : ℕ) (ps : List Partition) → wake_at ss o ps ≡ wake ss o (o + 1) ps

@@ -13,6 +13,7 @@ ghost use Rattle.kernel.specs.World.{core_of, world_of, with_core, gives, settle
 use crate::areas::{wipe, wipe_all};
 use crate::below::Guest;
 use crate::monitor::{Decision, decide};
+use crate::turn::Turn;
 use crate::whole::System;
 use board::Board;
 use machine::answer::{Answer, Outcome, Refusal};
@@ -76,6 +77,7 @@ impl<B: Board> System<B> {
             start: self.core.clock.time,
             ..self.core.clock
         };
+        self.core.turn = Turn::at(&self.core.tables.plans.rows[0], 0);
         self.core.parts = [Partition::new(); 8];
         self.core.channels.clear();
     }

@@ -1,6 +1,7 @@
 // The state of the core, without the board.
 use crate::channels::Channels;
 use crate::log::Log;
+use crate::turn::Turn;
 use machine::clock::Clock;
 use machine::partition::Partition;
 use vector::tables::Tables;
@@ -9,6 +10,7 @@ use vector::tables::Tables;
 pub struct Core {
     pub(crate) tables: Tables,
     pub(crate) clock: Clock,
+    pub(crate) turn: Turn,
     pub(crate) halted: bool,
     pub(crate) parts: [Partition; 8],
     pub(crate) channels: Channels,

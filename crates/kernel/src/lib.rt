@@ -16,6 +16,7 @@ mod monitor;
 mod ports;
 mod schedule;
 mod system;
+mod turn;
 mod whole;
 
 pub use history::run;

@@ -1,5 +1,5 @@
 // What each event does.
-ghost use Rattle.std.specs.Prelude.{◌≡◌, ℕ, ◌<◌, ◌≤◌, true, IfOk, IfSome, if◌then◌else◌, Some, None};
+ghost use Rattle.std.specs.Prelude.{◌≡◌, ℕ, ◌-◌, ◌<◌, ◌≤◌, true, IfOk, IfSome, if◌then◌else◌, Some, None};
 ghost use Rattle.board.specs.Areas.{loaded};
 ghost use Rattle.vector.specs.Reading.{tables as tables_of};
 ghost use Rattle.machine.specs.Answers.{reply_of};
@@ -11,17 +11,17 @@ ghost use Rattle.machine.specs.Circle.{Circle, circle_of};
 ghost use Rattle.machine.specs.Calls.{call_of, called};
 ghost use Rattle.machine.specs.Calls.{perform as perform_of};
 ghost use Rattle.machine.specs.State.{area};
-ghost use Rattle.machine.specs.Step.{running, load, store, tick};
+ghost use Rattle.machine.specs.Step.{running, later, load, store, tick};
 ghost use Rattle.kernel.specs.Promises.{Apart, Planned, Unmoved};
 ghost use Rattle.kernel.specs.Targets.{on_processor};
-ghost use Rattle.kernel.specs.World.{core_of, world_of, gives, settled, performed, stepped, booted};
+ghost use Rattle.kernel.specs.World.{core_of, world_of, with_core, gives, settled, performed, stepped, booted};
 
 use crate::areas::is_fitting;
 use crate::below::Guest;
 use crate::channels::Channels;
 use crate::inner::Core;
 use crate::log::Log;
-use crate::schedule::holder;
+use crate::turn::Turn;
 use crate::whole::System;
 use board::Board;
 use clock::pass;
@@ -46,9 +46,11 @@ impl<B: Board> System<B> {
             next: 0,
             start: 0,
         };
+        let turn = Turn::at(&tables.plans.rows[0], 0);
         let core = Core {
             tables,
             clock,
+            turn,
             halted,
             parts: [Partition::new(); 8],
             channels: Channels::new(),
@@ -65,12 +67,8 @@ impl<B: Board> System<B> {
         if usize::from(q) >= self.core.tables.partitions.count {
             return Err(Refusal::NotOnProcessor);
         }
-        let clock = &self.core.clock;
-        let plan = &self.core.tables.plans.rows[usize::from(clock.plan)];
         let guest = Guest::new(q);
-        if holder(plan, clock.time - clock.start) == Some(q)
-            && self.core.parts[guest.index()].is_ready()
-        {
+        if self.core.turn.holder == Some(q) && self.core.parts[guest.index()].is_ready() {
             Ok(guest)
         } else {
             Err(Refusal::NotOnProcessor)
@@ -97,6 +95,31 @@ impl<B: Board> System<B> {
         }
     }
 
+    /// Goes on to the time t within the turn: only the time moves.
+    fn stay(&mut self, t: Time)
+        requires ahead { self.old.core.clock.time ≤ t }
+        requires within { t - self.old.core.clock.start < self.old.core.turn.until }
+        ensures { world_of B.areas self.new ≡ with_core (later self.old.core.tables (t - self.old.core.clock.time) (core_of self.old.core)) (world_of B.areas self.old) }
+    {
+        self.core.clock.time = t;
+    }
+
+    /// Goes on past the end of the turn to the time t, and finds the turn there.
+    fn pass(&mut self, t: Time)
+        requires ahead { self.old.core.clock.time ≤ t }
+        ensures { world_of B.areas self.new ≡ with_core (later self.old.core.tables (t - self.old.core.clock.time) (core_of self.old.core)) (world_of B.areas self.old) }
+    {
+        pass(
+            &self.core.tables.plans,
+            &mut self.core.clock,
+            &mut self.core.parts,
+            t,
+        );
+        let clock = &self.core.clock;
+        let plan = &self.core.tables.plans.rows[usize::from(clock.plan)];
+        self.core.turn = Turn::at(plan, clock.time - clock.start);
+    }
+
     /// Goes on to the time t, which is not before now and not too far ahead.
     fn tick(&mut self, t: Time) -> Outcome
         ensures is { gives (world_of B.areas self.new) (reply_of result) ≡ settled 0 (tick self.old.core.tables (core_of self.old.core) t) (world_of B.areas self.old) }
@@ -106,12 +129,11 @@ impl<B: Board> System<B> {
         if t < time || t - time > FARTHEST {
             return Err(Refusal::OpNotAllowed);
         }
-        pass(
-            &self.core.tables.plans,
-            &mut self.core.clock,
-            &mut self.core.parts,
-            t,
-        );
+        if t - self.core.clock.start < self.core.turn.until {
+            self.stay(t);
+        } else {
+            self.pass(t);
+        }
         Ok(Answer::Done)
     }
 

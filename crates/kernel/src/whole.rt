@@ -1,9 +1,11 @@
 // The system: a board, and the core whose tables and clock are sound.
-ghost use Rattle.std.specs.Prelude.{◌≤◌};
+ghost use Rattle.std.specs.Prelude.{◌-◌, ◌≤◌};
 ghost use Rattle.vector.specs.Fair.{AllWithin};
 ghost use Rattle.clock.specs.Timely.{Timely};
 ghost use Rattle.lookup.specs.Bounds.{Ported, Joined, Lined};
+ghost use Rattle.machine.specs.Time.{plan_at};
 ghost use Rattle.kernel.specs.Soundness.{Planned, Framed, Slotted, Owned, Bounded};
+ghost use Rattle.kernel.specs.Turns.{Turned};
 
 use crate::inner::Core;
 
@@ -22,4 +24,5 @@ pub struct System<B> {
     ghost bounded: { Bounded core.tables },
     ghost lined: { Lined core.tables.lines },
     ghost timely: { Timely core.tables.plans core.clock },
+    ghost turned: { Turned (plan_at core.tables.plans core.clock.plan) (core.clock.time - core.clock.start) core.turn },
 }

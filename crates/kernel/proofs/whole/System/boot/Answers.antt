@@ -18,4 +18,5 @@ invariant_of-result g c =
       bounded = bounded t s f;
       lined = s.5;
       timely = started t s;
+      turned = c.at-turn.ensures.turned;
     }

@@ -1,0 +1,132 @@
+-- Between the edges of slots the same partition runs, and nobody wakes.
+use Rattle.std.proofs.Common.{◌≡◌, ℕ, ◌+◌, ◌-◌, ◌<◌, ◌≤◌, min, Bool, true, false, cond, ◌&&◌, ◌||◌, eqb, leb, ltb, List, [], ◌∷◌, length, get_or, drop, Some, inl, inr, sym, refl, ap, ap₂, ◌∙◌, arith}
+use Rattle.std.proofs.lemmas.List.{drop_more, drop_all}
+use Rattle.std.proofs.Math.Nat.{min-le_left, min-le_right}
+use Rattle.std.proofs.lemmas.Bool.{both_ways, cases_lt, cond-true, cond-false, lt-ltb, le-ltb, eq-eqb}
+use Rattle.std.proofs.lemmas.Bool.Decides.{nat_tests}
+use Rattle.vector.specs.Tables.{Plans}
+use Rattle.vector.specs.declared.tables.Plan.{Plan}
+use Rattle.vector.specs.declared.tables.Slot.{Slot}
+use Rattle.vector.specs.Blank.{slot0}
+use Rattle.machine.specs.declared.clock.Clock.{Clock}
+use Rattle.machine.specs.declared.partition.Partition.{Partition}
+use Rattle.machine.specs.Questions.{slots_of, covers, holder}
+use Rattle.machine.specs.Time.{plan_at, clock_of, timed, micros}
+use Rattle.clock.specs.Ranges.{within, starts}
+use Rattle.clock.proofs.Running.{pass_in}
+use Rattle.clock.proofs.Waking.{wake-calm}
+use Rattle.kernel.specs.Turns.{edges, Calm, edge, first_edge, turn_of, Turned}
+use Rattle.kernel.specs.declared.turn.Turn.{Turn}
+
+-- where none of three tests holds
+neither : (a b c : Bool) → ((a || b) || c) ≡ false → (a ≡ false) × (b ≡ false) × (c ≡ false)
+neither false false false e = (refl, refl, refl)
+neither false false true e = absurd (both_ways true e refl)
+neither false true c e = absurd (both_ways true e refl)
+neither true b c e = absurd (both_ways true e refl)
+
+and_false : (b : Bool) → (b && false) ≡ false
+and_false true = refl
+and_false false = refl
+
+module _ (o u : ℕ) where
+  -- what is calm of a slot and others is calm of the others, and of the slot
+  rest : (s : Slot) (ss : List Slot) → Calm (s ∷ ss) o u → Calm ss o u
+  unfolding edges
+  rest s ss h x l m = (neither (eqb s.start x) (eqb (s.start + s.duration) x) (edges ss x) (h x l m)).2
+
+  no_start : (s : Slot) (ss : List Slot) → Calm (s ∷ ss) o u → o < s.start → s.start < u → ⊥
+  unfolding edges
+  no_start s ss h l m =
+      let x = s.start in
+      both_ways (eqb x x) (neither (eqb x x) (eqb (s.start + s.duration) x) (edges ss x) (h x l m)).0 (eq-eqb x x refl)
+
+  no_end : (s : Slot) (ss : List Slot) → Calm (s ∷ ss) o u → o < s.start + s.duration → s.start + s.duration < u → ⊥
+  unfolding edges
+  no_end s ss h l m =
+      let x = s.start + s.duration in
+      both_ways (eqb x x) (neither (eqb s.start x) (eqb x x) (edges ss x) (h x l m)).1 (eq-eqb x x refl)
+
+  -- an edge that is not crossed lies before both offsets, or before neither
+  same_before : (x e : ℕ) → (o < e → e < u → ⊥) → o ≤ x → x < u → leb e x ≡ leb e o
+  same_before x e h l m =
+      elim (cases_lt o e) [
+        | inl p ↦ elim (cases_lt x e) [ inl q ↦ grind (arith, nat_tests) | inr q ↦ absurd (h p (omega arith)) ]
+        | inr p ↦ grind (arith, nat_tests)
+      ]
+
+  same_after : (x e : ℕ) → (o < e → e < u → ⊥) → o ≤ x → x < u → ltb x e ≡ ltb o e
+  same_after x e h l m =
+      elim (cases_lt o e) [
+        | inl p ↦ elim (cases_lt x e) [ inl q ↦ grind (arith, nat_tests) | inr q ↦ absurd (h p (omega arith)) ]
+        | inr p ↦ grind (arith, nat_tests)
+      ]
+
+  same-holder : (ss : List Slot) (x : ℕ) → Calm ss o u → o ≤ x → x < u → holder ss x ≡ holder ss o
+  unfolding holder
+  same-holder [] x h l m = refl
+  same-holder (s ∷ ss) x h l m =
+      let a = same_before x s.start (no_start s ss h) l m in
+      let b = same_after x (s.start + s.duration) (no_end s ss h) l m in
+      ap₂ (λ p q. cond (p && q) (Some s.partition) (holder ss x)) a b
+      ∙ ap (λ r. cond (covers s o) (Some s.partition) r) (same-holder ss x (rest s ss h) l m)
+
+  no_begin : (s : Slot) (ss : List Slot) (x : ℕ) → Calm (s ∷ ss) o u → x < u → within (o + 1) (x + 1) s.start ≡ false
+  no_begin s ss x h m =
+      elim (cases_lt o s.start) [
+        | inl p ↦ elim (cases_lt x s.start) [ inl q ↦ grind (arith, nat_tests) | inr q ↦ absurd (no_start s ss h p (omega arith)) ]
+        | inr p ↦ grind (arith, nat_tests)
+      ]
+
+  no_starts : (ss : List Slot) (x q : ℕ) → Calm ss o u → x < u → starts ss (o + 1) (x + 1) q ≡ false
+  unfolding starts
+  no_starts [] x q h m = refl
+  no_starts (s ∷ ss) x q h m =
+      ap₂ (λ y z. (eqb s.partition q && y) || z) (no_begin s ss x h m) (no_starts ss x q (rest s ss h) m) ∙ ap (λ y. y || false) (and_false (eqb s.partition q))
+
+-- the edge found is not after the bound, and the slot has none before it
+edge-in : (s : Slot) (o u : ℕ) → (edge s o u ≤ u) × ((x : ℕ) → o < x → x < edge s o u → (eqb s.start x || eqb (s.start + s.duration) x) ≡ false)
+edge-in s o u =
+    let b = s.start in
+    let e = s.start + s.duration in
+    elim (cases_lt o b) [
+      | inl p ↦ let f : edge s o u ≡ min u b = cond-true _ _ _ (lt-ltb o b p) in (omega (arith, f, min-le_left u b), λ x l m. grind (arith, nat_tests, f, min-le_right u b))
+      | inr p ↦ elim (cases_lt o e) [
+        | inl q ↦ let f : edge s o u ≡ min u e = cond-false _ _ _ (le-ltb o b p) ∙ cond-true _ _ _ (lt-ltb o e q) in (omega (arith, f, min-le_left u e), λ x l m. grind (arith, nat_tests, f, min-le_right u e))
+        | inr q ↦ let f : edge s o u ≡ u = cond-false _ _ _ (le-ltb o b p) ∙ cond-false _ _ _ (le-ltb o e q) in (omega (arith, f), λ x l m. grind (arith, nat_tests))
+      ]
+    ]
+
+-- .. and none of many slots has one before the first edge
+first-calm : (ss : List Slot) (o u : ℕ) → (first_edge ss o u ≤ u) × Calm ss o (first_edge ss o u)
+unfolding first_edge edges
+first-calm [] o u = (omega arith, λ x l m. refl)
+first-calm (s ∷ ss) o u =
+    let j = edge-in s o u in
+    let i = first-calm ss o (edge s o u) in
+    (omega (arith, i.0, j.0), λ x l m. ap₂ ◌||◌ (j.1 x l (omega (arith, m, i.0))) (i.1 x l m))
+
+pub turned : (p : Plan) (o : ℕ) → Turned p o (turn_of p o)
+turned p o = let f = first-calm (slots_of p) o p.frame in (refl, f.1, f.0)
+
+-- a turn stays right up to its end
+pub turned_on : (p : Plan) (o x : ℕ) (t : Turn) → Turned p o t → o ≤ x → x < t.until → Turned p x t
+turned_on p o x t h l m = (h.0 ∙ sym (same-holder o t.until (slots_of p) x h.1 l m), λ y a b. h.1 y (omega arith) b, h.2)
+
+-- up to there a microsecond only moves the time
+pub calm_passed : (ps : Plans) (k : Clock) (qs : List Partition) (t : ℕ) (u : Turn) →
+    Turned (plan_at ps k.plan) (k.time - k.start) u → k.start ≤ k.time → k.time ≤ t → t - k.start < u.until →
+    micros ps (t - k.time) (timed k qs) ≡ timed (clock_of t k.plan k.next k.start) qs
+calm_passed ps k qs t u h f l m =
+    let ss = slots_of (plan_at ps k.plan) in
+    pass_in ps t k.time k.plan k.next k.start qs f l (omega (arith, m, h.2))
+    ∙ ap (timed (clock_of t k.plan k.next k.start)) (wake-calm ss (k.time - k.start + 1) (t - k.start + 1) qs (λ q. no_starts (k.time - k.start) u.until ss (t - k.start) q h.1 m))
+
+-- a turn of the loop over the slots
+pub first_edge-more : (ss : List Slot) (i o u : ℕ) → i < length ss → first_edge (drop i ss) o u ≡ first_edge (drop (i + 1) ss) o (edge (get_or ss i slot0) o u)
+unfolding first_edge
+first_edge-more ss i o u h = ap (λ xs. first_edge xs o u) (drop_more ss i slot0 h)
+
+pub first_edge-end : (ss : List Slot) (i o u : ℕ) → length ss ≤ i → first_edge (drop i ss) o u ≡ u
+unfolding first_edge
+first_edge-end ss i o u h = ap (λ xs. first_edge xs o u) (drop_all i ss h)
