@@ -11,7 +11,7 @@ use Rattle.machine.specs.State.{State, Effect, keeps, writes, clears, clears_all
 use Rattle.machine.specs.Step.{author, step}
 use Rattle.machine.specs.Runs.{after}
 use Rattle.machine.specs.Isolation.{whose, is_of}
-use Rattle.machine.specs.Integrity.{is_cold_reset, Integral, is_system_fault, reaches, Preserved}
+use Rattle.machine.specs.Integrity.{is_cold_reset, Integral, is_cold_fault, reaches, Preserved}
 use Rattle.machine.proofs.Outcomes.{Mine, tamed}
 
 not_named : (o : Option ℕ) (t r : ℕ) → o ≡ Some t → names o r ≡ false → r ≡ t → ⊥
@@ -25,16 +25,16 @@ applied-other (writes a) p o r ms h d = get_or-set_other ms p r a [] (not_named 
 applied-other (clears t) p o r ms h d = get_or-set_other ms t r _ [] (not_named o t r h d)
 applied-other (clears_all m) p o r ms h d = absurd h
 
-unreached : (k : Tables) (s : State) (r : ℕ) (e : Event) → is_of k r e ≡ false → is_cold_reset k e ≡ false → is_system_fault e ≡ false →
+unreached : (k : Tables) (s : State) (r : ℕ) (e : Event) → is_of k r e ≡ false → is_cold_reset k e ≡ false → is_cold_fault k e ≡ false →
     area (step k s e).state.areas r ≡ area s.areas r
 unreached k s r e i c f = applied-other _ (author e) (whose k e) r s.areas ((tamed k s e).own (or_from _ _ f c)) i
 
--- who has an event is one partition, and no system fault is anybody's
+-- who has an event is one partition, and no fault of the system is anybody's
 other : (o : Option ℕ) (q r : ℕ) → names o q ≡ true → (r ≡ q → ⊥) → names o r ≡ false
 other None q r h n = absurd (both_ways false refl h)
 other (Some p) q r h n = ne_eqb p r (λ e. n (sym e ∙ eqb-true p q h))
 
-no_fault : (k : Tables) (q : ℕ) (e : Event) → is_of k q e ≡ true → is_system_fault e ≡ false
+no_fault : (k : Tables) (q : ℕ) (e : Event) → is_of k q e ≡ true → is_cold_fault k e ≡ false
 no_fault k q (Tick t) h = refl
 no_fault k q (Call p n g) h = refl
 no_fault k q (Load p o) h = refl

@@ -1,5 +1,5 @@
 -- What is true of the outcome of every event: one walk over the calls, the faults and the rest.
-use Rattle.std.proofs.Common.{◌≡◌, ℕ, ◌-◌, Bool, true, false, ◌&&◌, ◌||◌, eqb, ltb, leb, List, get_or, pos, negsuc, Some, None, Option, Ok, Err, sym, refl, subst, inl, inr, arith}
+use Rattle.std.proofs.Common.{◌≡◌, ℕ, ◌-◌, Bool, true, false, ◌&&◌, ◌||◌, eqb, ltb, List, get_or, pos, negsuc, Some, None, Option, Ok, Err, sym, refl, subst, inl, inr, arith}
 use Rattle.std.proofs.lemmas.Bool.{both_ways, and_right, or_cases, or_left, eqb-true, cond-true, cond_both}
 use Rattle.vector.specs.declared.tables.Tables.{Tables}
 use Rattle.vector.specs.declared.tables.Response.{Response}
@@ -22,7 +22,7 @@ use Rattle.machine.specs.Letters.{Letter}
 use Rattle.machine.specs.Questions.{exists, is_system, manages, response, owner}
 use Rattle.machine.specs.State.{Core, State, Effect, keeps, writes, clears, clears_all, Out, refused, guard, area}
 use Rattle.machine.specs.Time.{timed}
-use Rattle.machine.specs.Faults.{logged, carried, faulted, system_response, system_carried, system_faulted}
+use Rattle.machine.specs.Faults.{logged, carried, faulted, is_systems, system_response, system_carried, system_faulted}
 use Rattle.machine.specs.Management.{arg}
 use Rattle.machine.specs.Partitions.{nobody, masked, unmasked, acknowledged}
 use Rattle.machine.specs.Ports.{nameable, sought, create_at, sampled, taken}
@@ -32,7 +32,7 @@ use Rattle.machine.specs.Calls.{perform, calls, attempted, called}
 use Rattle.machine.specs.Step.{running, gate, author, outcome}
 use Rattle.machine.specs.Laws.{PortOf, is_reset, resets, replans, Planned}
 use Rattle.machine.specs.Isolation.{existing, whose}
-use Rattle.machine.specs.Integrity.{is_cold, is_cold_reset, is_system_fault}
+use Rattle.machine.specs.Integrity.{is_cold, is_cold_reset, is_cold_action, is_cold_fault}
 use Rattle.machine.proofs.Numbered.{From, none, ◌also◌, numbered}
 use Rattle.machine.proofs.Passing.{micros-plan}
 use Rattle.machine.proofs.Calm.{There, owned}
@@ -117,19 +117,15 @@ module _ (k : Tables) (b c : Bool) (x : Core) where
 never : {A : Type 0} → true ≡ false → A
 never e = absurd (both_ways true e refl)
 
--- a system fault may reach every area, and replans by a reset alone
-system_tame : (k : Tables) (p : ℕ) (o : Option ℕ) (b : Bool) (x y : Core) (f : Effect) (z : ℕ) → (b ≡ false → y.clock.plan ≡ x.clock.plan) →
-    (Sane k x → Sane k y) → Tame k p o b true x (record { core = y; effect = f; reply = reply (pos z) 0 0 })
-system_tame k p o b x y f z e h = tame_told k p o b true x z 0 0 e never h
-
+-- a fault of the system replans by a reset alone, and reaches areas by a cold one alone
 system_carried_tame : (k : Tables) (p : ℕ) (o : Option ℕ) (a : Action) (x y : Core) → y.clock.plan ≡ x.clock.plan → (Sane k x → Sane k y) →
-    Tame k p o (resets a) true x (system_carried k a y)
-system_carried_tame k p o Ignore x y e h = search (system_tame, sane)
-system_carried_tame k p o Signal x y e h = search (system_tame, sane)
-system_carried_tame k p o Suspend x y e h = search (system_tame, sane)
-system_carried_tame k p o Halt x y e h = search (system_tame, sane)
-system_carried_tame k p o WarmReset x y e h = let z = never {A = 0 ≡ x.clock.plan} in search (system_tame, sane)
-system_carried_tame k p o ColdReset x y e h = let z = never {A = 0 ≡ x.clock.plan} in search (system_tame, sane)
+    Tame k p o (resets a) (is_cold_action a || false) x (system_carried k a y)
+system_carried_tame k p o Ignore x y e h = search tame depth 8
+system_carried_tame k p o Signal x y e h = search tame depth 8
+system_carried_tame k p o Suspend x y e h = search tame depth 8
+system_carried_tame k p o Halt x y e h = search tame depth 8
+system_carried_tame k p o WarmReset x y e h = let z = never {A = 0 ≡ x.clock.plan} in search tame depth 8
+system_carried_tame k p o ColdReset x y e h = let z = never {A = 0 ≡ x.clock.plan} in let w = never {A = ⊥} in search tame depth 8
 
 ruleset parts = (faulted_tame, sampled_tame, taken_tame, read_tame)
 
@@ -223,7 +219,7 @@ still_tame k c x q {u} h =
     subst (λ b. Tame k q (existing k q) b c x (gate k x q u)) (and_right (running k x q) false refl) (gate_tame k false c x q h)
 
 outcome_tame : (k : Tables) (s : State) (e : Event) →
-    Tame k (author e) (whose k e) (replans k s e) (is_system_fault e || is_cold_reset k e) s.core (outcome k s e)
+    Tame k (author e) (whose k e) (replans k s e) (is_cold_fault k e || is_cold_reset k e) s.core (outcome k s e)
 outcome_tame k s (Tick t) =
     let n = t - s.core.clock.time in
     let h = later_sane k s.core n in
@@ -238,15 +234,16 @@ outcome_tame k s (Fault q e) = still_tame k _ s.core q (λ t _. search (tame, pa
 outcome_tame k s (Line l) = let h = line_of_tame k false false s.core (owner k l) 0 (whose k (Line l)) l (owned k l) in search tame
 outcome_tame k s (SystemFault e) =
     let r = system_response k e in
-    let c = leb 8 e && ltb e 12 in
+    let c = is_systems e in
     let h = system_carried_tame k 0 None r.action s.core _ (logged-plan System e r s.core) (logged_sane k s.core System e r) in
-    tame_guard k 0 None (c && resets r.action) true s.core c
-    (λ i. subst (λ b. Tame k 0 None (b && resets r.action) true s.core (system_faulted k s.core e)) (sym i) h)
+    tame_guard k 0 None (c && resets r.action) ((c && is_cold_action r.action) || false) s.core c
+    (λ i.
+    subst (λ b. Tame k 0 None (b && resets r.action) ((b && is_cold_action r.action) || false) s.core (system_faulted k s.core e)) (sym i) h)
     (λ _. search tame)
 
 -- .. in a system that runs or is halted
 pub tamed : (k : Tables) (s : State) (e : Event) →
-    Tame k (author e) (whose k e) (replans k s e) (is_system_fault e || is_cold_reset k e) s.core
+    Tame k (author e) (whose k e) (replans k s e) (is_cold_fault k e || is_cold_reset k e) s.core
     (guard s.core.halted (refused s.core SystemHalted) (outcome k s e))
 tamed k s e = let h = outcome_tame k s e in search tame
 

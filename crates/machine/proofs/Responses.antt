@@ -1,5 +1,5 @@
 -- Faults and the health monitor's responses, and the calls on the log and the system.
-use Rattle.std.proofs.Common.{◌≡◌, ℕ, Bool, true, false, cond, ◌&&◌, ltb, leb, [], replicate, Some, None, Option, refl, ap}
+use Rattle.std.proofs.Common.{◌≡◌, ℕ, Bool, true, false, cond, [], replicate, Some, None, Option, refl, ap}
 use Rattle.std.proofs.lemmas.Bool.{cond_both}
 use Rattle.queue.specs.Ring.{first}
 use Rattle.vector.specs.declared.tables.Tables.{Tables}
@@ -14,7 +14,7 @@ use Rattle.machine.specs.Partitions.{fresh, nobody}
 use Rattle.machine.specs.Questions.{is_system, response}
 use Rattle.machine.specs.State.{Core, keeps}
 use Rattle.machine.specs.Time.{clock_of}
-use Rattle.machine.specs.Faults.{entry, noted, logged, carried, faulted, strayed, restarted, system_carried, system_response}
+use Rattle.machine.specs.Faults.{is_systems, entry, noted, logged, carried, faulted, strayed, restarted, system_carried, system_response}
 use Rattle.machine.specs.Monitor.{raise_partition_error, read, read_log, reset_system, halt_system}
 use Rattle.machine.specs.Step.{system_fault}
 use Rattle.machine.proofs.Agree.{agree_refl}
@@ -85,7 +85,7 @@ module _ (k : Tables) (M C : ℕ → Bool) where
 
   pub system_fault_matched : (q e : ℕ) (x y : Core) → Alike M C x y → Matched k M C q (system_fault k x e) (system_fault k y e)
   system_fault_matched q e x y r =
-      matched_guard k M C q (leb 8 e && ltb e 12) _ refl
+      matched_guard k M C q (is_systems e) _ refl
       (λ _. system_carried_matched (system_response k e).action q _ _ (logged_alike M C System e (system_response k e) x y r))
       (λ _. matched_same k M C q keeps _ r)
 

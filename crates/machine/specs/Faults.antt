@@ -1,5 +1,5 @@
 -- The health monitor: its log, and what each response does.
-use Rattle.std.specs.Prelude.{ℕ, ◌-◌, true, cond, [], replicate, pos, slice_index_or}
+use Rattle.std.specs.Prelude.{ℕ, ◌-◌, Bool, true, ◌&&◌, cond, [], replicate, pos, nat_le, nat_lt, slice_index_or}
 use Rattle.queue.specs.Ring.{over}
 use Rattle.vector.specs.declared.tables.Tables.{Tables}
 use Rattle.vector.specs.declared.tables.Response.{Response}
@@ -64,6 +64,10 @@ system_carried k Suspend x = acted Suspend x keeps
 system_carried k Halt x = acted Halt (with_halted x true) keeps
 system_carried k WarmReset x = acted WarmReset (restarted x) keeps
 system_carried k ColdReset x = acted ColdReset (with_log (restarted x) []) (clears_all k.partitions.count)
+
+-- the fault events of the system are 8 to 11
+abbrev pub is_systems : ℕ → Bool
+is_systems e = nat_le 8 e && nat_lt e 12
 
 abbrev pub system_response : Tables → ℕ → Response
 system_response k e = slice_index_or k.system (e - 8) response0

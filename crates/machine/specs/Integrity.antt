@@ -2,10 +2,13 @@
 use Rattle.std.specs.Prelude.{◌≡◌, ℕ, Bool, true, false, ◌&&◌, ◌||◌, List, ◌==◌, ◌≢◌}
 use Rattle.vector.specs.Names.{any}
 use Rattle.vector.specs.declared.tables.Tables.{Tables}
+use Rattle.vector.specs.declared.tables.Action.{Action}
+use Rattle.vector.specs.declared.tables.Action.TheVariants.{Ignore, Signal, Suspend, Halt, WarmReset, ColdReset}
 use Rattle.machine.specs.declared.event.Event.{Event}
 use Rattle.machine.specs.declared.event.Event.TheVariants.{Tick, Call, Load, Store, Fault, Line, SystemFault}
 use Rattle.machine.specs.Questions.{is_system}
 use Rattle.machine.specs.State.{State, area}
+use Rattle.machine.specs.Faults.{is_systems, system_response}
 use Rattle.machine.specs.Management.{arg}
 use Rattle.machine.specs.Step.{step}
 use Rattle.machine.specs.Runs.{after}
@@ -31,18 +34,28 @@ Integral k s e =
     (q r : ℕ) → is_of k q e ≡ true → is_cold_reset k e ≡ false → (r ≢ q) →
     area (step k s e).state.areas r ≡ area s.areas r
 
-abbrev pub is_system_fault : Event → Bool
-is_system_fault (Tick t) = false
-is_system_fault (Call q n g) = false
-is_system_fault (Load q o) = false
-is_system_fault (Store q o v) = false
-is_system_fault (Fault q e) = false
-is_system_fault (Line l) = false
-is_system_fault (SystemFault e) = true
+-- is this action of the health monitor a cold reset
+abbrev pub is_cold_action : Action → Bool
+is_cold_action Ignore = false
+is_cold_action Signal = false
+is_cold_action Suspend = false
+is_cold_action Halt = false
+is_cold_action WarmReset = false
+is_cold_action ColdReset = true
 
--- may the event change r's area: it is r's own, a system partition's cold reset, or a system fault
+-- a fault of the system whose response is a cold reset
+abbrev pub is_cold_fault : Tables → Event → Bool
+is_cold_fault k (Tick t) = false
+is_cold_fault k (Call q n g) = false
+is_cold_fault k (Load q o) = false
+is_cold_fault k (Store q o v) = false
+is_cold_fault k (Fault q e) = false
+is_cold_fault k (Line l) = false
+is_cold_fault k (SystemFault e) = is_systems e && is_cold_action (system_response k e).action
+
+-- may the event change r's area: it is r's own, or a cold reset by a system partition or by a fault of the system
 abbrev pub reaches : Tables → ℕ → Event → Bool
-reaches k r e = is_of k r e || (is_cold_reset k e || is_system_fault e)
+reaches k r e = is_of k r e || (is_cold_reset k e || is_cold_fault k e)
 
 -- an area stays through every history of events none of which reaches it
 abbrev pub Preserved : Tables → State → List Event → Type 0

@@ -1,5 +1,5 @@
 -- Laws of the machine, in every state and over all runs.
-use Rattle.std.specs.Prelude.{◌≡◌, ℕ, zero, suc, ◌+◌, ◌-◌, ◌<◌, ◌≤◌, Bool, true, false, ◌&&◌, ◌||◌, List, [], ◌∷◌, length, get_or, negsuc, Some, ◌==◌, nat_le, nat_lt, slice_index_or}
+use Rattle.std.specs.Prelude.{◌≡◌, ℕ, zero, suc, ◌+◌, ◌-◌, ◌<◌, ◌≤◌, Bool, true, false, ◌&&◌, ◌||◌, List, [], ◌∷◌, length, get_or, negsuc, Some, ◌==◌, nat_lt, slice_index_or}
 use Rattle.vector.specs.Laws.{channel_at, slot_at, Lawful}
 use Rattle.vector.specs.declared.tables.Tables.{Tables}
 use Rattle.vector.specs.Tables.{Plans}
@@ -18,7 +18,7 @@ use Rattle.machine.specs.Questions.{exists, is_system, plan, slots_of, holder, p
 use Rattle.machine.specs.Searches.{RunsAt}
 use Rattle.machine.specs.State.{Core, State}
 use Rattle.machine.specs.Time.{plan_at, rolled}
-use Rattle.machine.specs.Faults.{system_response}
+use Rattle.machine.specs.Faults.{is_systems, system_response}
 use Rattle.machine.specs.Management.{arg}
 use Rattle.machine.specs.Step.{running, step}
 
@@ -142,7 +142,7 @@ replans k s (Load q o) = false
 replans k s (Store q o v) = false
 replans k s (Fault q e) = false
 replans k s (Line l) = false
-replans k s (SystemFault e) = (nat_le 8 e && nat_lt e 12) && resets (system_response k e).action
+replans k s (SystemFault e) = is_systems e && resets (system_response k e).action
 
 -- No other event does: plans switch where a frame ends.
 abbrev pub Planned : Tables → State → Event → Type 0

@@ -9,7 +9,7 @@ use Rattle.machine.specs.Questions.{exists, row, plan, slots_of, holder, names}
 use Rattle.machine.specs.State.{Core, State, writes, Out, Result, answered, done, refused, guard, with_parts, with_clock, area, settle}
 use Rattle.machine.specs.Answers.{reply}
 use Rattle.machine.specs.Time.{Timed, timed, clock_of, micros}
-use Rattle.machine.specs.Faults.{faulted, strayed, system_faulted}
+use Rattle.machine.specs.Faults.{faulted, strayed, is_systems, system_faulted}
 use Rattle.machine.specs.Interrupts.{line}
 use Rattle.machine.specs.Calls.{called}
 
@@ -37,7 +37,7 @@ abbrev pub fault : Tables → Core → ℕ → ℕ → Out
 fault k x q e = guard (nat_lt e 7) (faulted k x q e) (refused x InvalidParam)
 
 abbrev pub system_fault : Tables → Core → ℕ → Out
-system_fault k x e = guard (nat_le 8 e && nat_lt e 12) (system_faulted k x e) (refused x InvalidParam)
+system_fault k x e = guard (is_systems e) (system_faulted k x e) (refused x InvalidParam)
 
 abbrev pub with_timed : Core → Timed → Core
 with_timed x t = with_parts (with_clock x t.clock) t.parts
