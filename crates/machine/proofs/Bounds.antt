@@ -40,7 +40,7 @@ sane-steady k x r =
 pub lasting : (k : Tables) (s : State) (e : Event) → Lasting k s e
 lasting k s e r = sane-steady k _ ((tamed k s e).sane (steady-sane k s.core r))
 
--- so does a history from the boot on
+-- the boot has it, and so has every history from there on
 pub booted : (k : Tables) (ms : List (List ℕ)) → Steady k (boot k ms).core
 booted k ms = sane-steady k _ (boot_sane k ms)
 

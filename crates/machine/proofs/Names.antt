@@ -39,7 +39,7 @@ module _ (k : Tables) (q : ℕ) (t : ChannelKind) (n : Name) where
   suits i = owns k q t i && same_name (port k i).name n
 
   -- what is found below m is such a port; and a port is found that is the last such one
-  pub named-found : (i m : ℕ) → named k q t n m ≡ Some i → (i < m) × (suits i ≡ true)
+  named-found : (i m : ℕ) → named k q t n m ≡ Some i → (i < m) × (suits i ≡ true)
   unfolding named
   named-found i zero e = absurd (none-not i e)
   named-found i (suc m) e =

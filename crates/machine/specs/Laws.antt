@@ -101,7 +101,7 @@ PlansThere k x = (x.clock.plan < k.plans.count) × (x.clock.next < k.plans.count
 abbrev pub Absent : Tables → Core → Type 0
 Absent k x = (q : ℕ) → exists k q ≡ false → q < 8 → get_or x.parts q nobody ≡ fresh
 
--- all of this, on the tables of a vector that is taken
+-- all of this; the premises hold of the tables of every vector that is taken
 pub record Steady (k : Tables) (x : Core) : Type 0 where
   pub bounded : Bounded k x
   pub plans : 1 ≤ k.plans.count → PlansThere k x
