@@ -22,9 +22,9 @@ use Rattle.machine.proofs.Integrity.{integral, preserved}
 use Rattle.machine.proofs.Refusals.{unmoved}
 use Rattle.machine.proofs.Schedules.{single, scheduled, served}
 use Rattle.machine.proofs.Outcomes.{planned}
-use Rattle.machine.proofs.Bounds.{steady}
+use Rattle.machine.proofs.Bounds.{steady, lasting}
 use Rattle.kernel.specs.World.{World, Moved, gives, stepped, ended}
-use Rattle.kernel.specs.Promises.{picked, Isolating, Apart, Unmoved, Planned, Lawful, Preserving}
+use Rattle.kernel.specs.Promises.{picked, Isolating, Apart, Unmoved, Planned, Lasting, Lawful, Preserving}
 
 source : (d : Direction) → is_source d ≡ true → d ≡ Source
 source Source e = refl
@@ -92,6 +92,9 @@ unmoved-by w v e r m n c =
 
 pub planned-by : (w v : World) (e : Event) (r : Reply) → gives v r ≡ stepped e w → Planned e w v
 planned-by w v e r m h = ap (λ (u : Moved). u.result.state.core.clock.plan) m ∙ planned w.tables w.state e h
+
+pub lasting-by : (w v : World) (e : Event) (r : Reply) → gives v r ≡ stepped e w → Lasting w v
+lasting-by w v e r m s = subst (λ (u : Moved). Steady u.tables u.result.state.core) (sym m) (lasting w.tables w.state e s)
 
 module _ (k : Tables) (f : Sound k) (l : vector.Lawful k) where
   lawful-steady : (x : Core) → Steady k x → Lawful k x

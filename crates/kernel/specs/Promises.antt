@@ -7,7 +7,7 @@ use Rattle.machine.specs.declared.answer.Reply.{Reply}
 use Rattle.machine.specs.Questions.{exists, is_system}
 use Rattle.machine.specs.State.{Core, State, area}
 use Rattle.machine.specs.Step.{boot, fits, running}
-use Rattle.machine.specs.Laws.{Bounded, PlansThere, Absent, Single, Scheduled, Served, replans}
+use Rattle.machine.specs.Laws.{Bounded, PlansThere, Absent, Single, Scheduled, Served, Steady, replans}
 use Rattle.kernel.specs.World.{World, ended}
 use Rattle.machine.specs.Runs.{Line, after, lines}
 use Rattle.machine.specs.Circle.{Circle}
@@ -44,6 +44,10 @@ Unmoved r w v = (n : ℕ) → r.code ≡ negsuc n → v ≡ w
 -- an event left the plan as it was, unless a frame ended or the system was reset
 abbrev pub Planned : Event → World → World → Type 0
 Planned e w v = replans w.tables w.state e ≡ false → v.state.core.clock.plan ≡ w.state.core.clock.plan
+
+-- what every event of a run keeps, this event kept
+abbrev pub Lasting : World → World → Type 0
+Lasting w v = Steady w.tables w.state.core → Steady v.tables v.state.core
 
 -- what holds of every system that was run: nothing is pending for a HALTED partition, and nothing that its mask does not hide for an
 -- IDLE one; open ports are the partition's own; log and channels keep within their bounds; both plans are the vector's; a partition that

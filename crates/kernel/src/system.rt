@@ -5,6 +5,7 @@ ghost use Rattle.vector.specs.Reading.{tables as tables_of};
 ghost use Rattle.machine.specs.Answers.{reply_of};
 ghost use Rattle.machine.specs.declared.answer.Answer.TheVariants.{Done, Byte};
 ghost use Rattle.machine.specs.Shapes.{Shaped, ShapedOrOutside, CallShaped, call_shape, Suits};
+ghost use Rattle.machine.specs.Laws.{Steady};
 ghost use Rattle.machine.specs.Partitions.{bit};
 ghost use Rattle.machine.specs.Questions.{exists};
 ghost use Rattle.machine.specs.Circle.{Circle, circle_of};
@@ -12,7 +13,7 @@ ghost use Rattle.machine.specs.Calls.{call_of, called};
 ghost use Rattle.machine.specs.Calls.{perform as perform_of};
 ghost use Rattle.machine.specs.State.{area};
 ghost use Rattle.machine.specs.Step.{running, later, load, store, tick};
-ghost use Rattle.kernel.specs.Promises.{Apart, Planned, Unmoved};
+ghost use Rattle.kernel.specs.Promises.{Apart, Lasting, Planned, Unmoved};
 ghost use Rattle.kernel.specs.Targets.{on_processor};
 ghost use Rattle.kernel.specs.World.{core_of, world_of, with_core, gives, settled, performed, stepped, booted};
 
@@ -36,7 +37,8 @@ use vector::tables::ChannelKind;
 impl<B: Board> System<B> {
     /// Boots a checked vector on a board; on one that does not fit the system is halted.
     pub fn boot(vector: Checked, board: B) -> System<B>
-        ensures { world_of B.areas result ≡ booted (tables_of vector.entry.bytes.now) (B.areas board) }
+        ensures is { world_of B.areas result ≡ booted (tables_of vector.entry.bytes.now) (B.areas board) }
+        ensures steady { Steady (tables_of vector.entry.bytes.now) (world_of B.areas result).state.core }
     {
         let tables = vector.tables();
         let halted = !is_fitting(&tables, &board);
@@ -186,6 +188,7 @@ impl<B: Board> System<B> {
         ensures suited { Suits e result }
         ensures unmoved { Unmoved (reply_of result) (world_of B.areas self.old) (world_of B.areas self.new) }
         ensures planned { Planned e (world_of B.areas self.old) (world_of B.areas self.new) }
+        ensures lasting { Lasting (world_of B.areas self.old) (world_of B.areas self.new) }
         ensures apart { Apart self.old.core.tables e (B.areas self.old.board) (B.areas self.new.board) }
     {
         self.handle(e)

@@ -10,7 +10,7 @@ loop-exchange-preserved g c = onward _ _ _ _ _ _ _ _ (omega arith) c.event-excha
 
 pub returns : goal.returns
 returns g c =
-    let z = over _ _ _ _ _ _ _ c.boot-system.ensures (omega arith) c.loop-exchange.invariant in
+    let z = over _ _ _ _ _ _ _ c.boot-system.ensures.is (omega arith) c.loop-exchange.invariant in
     let w = takes-lawful c.args.vector.bytes.now c.args.vector.ok in
     record {
       ends = z.0;

@@ -1,5 +1,5 @@
 use Rattle.kernel.specs.World.{world_of}
-use Rattle.kernel.proofs.Keeping.{apart, unmoved-by, planned-by}
+use Rattle.kernel.proofs.Keeping.{apart, unmoved-by, planned-by, lasting-by}
 use Rattle.kernel.proofs.whole.System.event.Goals as goal
 
 pub returns : goal.returns
@@ -11,5 +11,6 @@ returns g c =
       suited = c.handle.ensures.shaped;
       unmoved = unmoved-by w v c.args.e _ c.handle.ensures.is;
       planned = planned-by w v c.args.e _ c.handle.ensures.is;
+      lasting = lasting-by w v c.args.e _ c.handle.ensures.is;
       apart = apart w v c.args.e _ c.handle.ensures.is;
     }
