@@ -3,6 +3,7 @@ ghost use Rattle.std.specs.Prelude.{◌≡◌, ℕ, ◌+◌, ◌^◌, ◌<◌};
 ghost use Rattle.vector.specs.Fair.{Within};
 ghost use Rattle.vector.specs.Sound.{SoundPlan};
 ghost use Rattle.machine.specs.Questions.{slots_of};
+ghost use Rattle.machine.specs.Searches.{Held};
 ghost use Rattle.kernel.specs.Turns.{Turned, turn_of};
 ghost use Rattle.kernel.specs.Turns.{edge as edge_of};
 ghost use Rattle.kernel.specs.Turns.{first_edge as first_edge_of};
@@ -19,13 +20,14 @@ pub(crate) struct Turn {
 }
 
 impl Turn {
-    /// The turn at an offset of the plan's frame.
-    #[tactic(auto, using(crate::proofs::Turning::turned))]
+    /// The turn at an offset of the plan's frame. Any slot that runs there gives its holder, since slots do not overlap.
+    #[tactic(auto, using(crate::proofs::Turning::turned, machine::proofs::Slots::held))]
     pub(crate) fn at(plan: &Plan, offset: Time) -> Turn
         requires sound { SoundPlan plan.now }
         requires within { Within plan.now }
         ensures is { result ≡ turn_of plan.now offset }
         ensures turned { Turned plan.now offset result }
+        ensures held { Held plan.now offset }
     {
         Turn {
             holder: holder(plan, offset),

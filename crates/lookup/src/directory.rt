@@ -2,6 +2,7 @@
 ghost use Rattle.std.specs.Prelude.{◌≡◌, ◌<◌, ◌≤◌, ◌&&◌, IfSome, if◌then◌else◌, Some};
 ghost use Rattle.vector.specs.Names.{same_name};
 ghost use Rattle.machine.specs.Questions.{owns, named};
+ghost use Rattle.machine.specs.Searches.{Found};
 ghost use Rattle.machine.specs.Questions.{port as port_at};
 ghost use Rattle.lookup.specs.Bounds.{Ported, Joined};
 
@@ -45,10 +46,12 @@ impl<'a> Directory<'a> {
         self.is_owner(q, kind, i as u32) && self.tables.ports.rows[i].name == *name
     }
 
-    /// The number of q's port of this type and name.
+    /// The number of q's port of this type and name; its only one, where the names of one partition's ports differ.
+    #[tactic(auto, using(machine::proofs::Names::found))]
     pub fn find_port(&self, q: u8, kind: ChannelKind, name: &Name) -> Option<u8>
         ensures is { result ≡ named self.now.tables.now q kind name.now self.now.tables.now.ports.count }
         ensures there { IfSome result (λ i. i < self.now.tables.now.ports.count) }
+        ensures found { Found self.now.tables.now q kind name.now }
     {
         // a closure of `find` would not know that i is the number of a port
         for i in (0..self.tables.ports.count).rev() {
