@@ -3,6 +3,7 @@
 from __future__ import annotations
 
 import os
+import resource
 import subprocess
 import sys
 from collections import Counter
@@ -32,9 +33,13 @@ def build_examples() -> None:
     subprocess.run(["make", "-s", "-B", "-C", str(EXAMPLES), "CC=gcc"], check=True)
 
 
-def run(program: Path, *arguments: object) -> tuple[bytes, int]:
-    """What a program prints, and its exit status."""
-    done = subprocess.run([program, *map(str, arguments)], stdout=subprocess.PIPE, timeout=PATIENCE)
+def run(program: Path, *arguments: object, stack: int | None = None) -> tuple[bytes, int]:
+    """What a program prints, and its exit status; with no more stack than so many KiB if that is said."""
+    def lessen() -> None:
+        resource.setrlimit(resource.RLIMIT_STACK, (stack * 1024, stack * 1024))
+
+    done = subprocess.run([program, *map(str, arguments)], stdout=subprocess.PIPE, timeout=PATIENCE, env={},
+                          preexec_fn=lessen if stack else None)
     return done.stdout, done.returncode
 
 

@@ -21,6 +21,7 @@ from limits import WHOLE
 SEED = 7
 RANDOM_SCRIPTS = 300
 KEPT_REFUSED = 10  # of scripts with a vector that is refused, one in so many: check_vector has met those
+STACK = 128  # KiB: with no more a run has to do
 MARGIN = bytes([0xA5]) * 64  # what the harness puts before and behind the answers
 FILLING = MARGIN[:1]
 
@@ -122,7 +123,7 @@ def compare_runs(tally: Tally, folder: Path) -> None:
         for room in rooms(rng, len(whole.answers)):
             ending = play(vector, records, room)
             tally.reached[ending.how] += 1
-            found = run(harness, files[0], files[1], room)
+            found = run(harness, files[0], files[1], room, stack=STACK)
             tally.compare(f"xm_run on {name} with room {room}", found, (expected_bytes(ending, room), 0))
         tally.compare(f"run_script on {name}", run(EXAMPLES / "run_script", files[2]), expected_print(vector, records))
     tally.require((ANSWERED, REFUSED, MALFORMED, NO_ROOM))

@@ -15,6 +15,7 @@ from spoil import spoiled
 from vector import VectorRefused, check
 
 VECTORS = 600
+STACK = 64  # KiB: with no more the check has to do
 TAKEN = 0
 REFUSALS = (12, 13, 14, 15, 16, 21, 31, 32, 33)
 FIELD_RANGE = 21
@@ -99,5 +100,6 @@ def compare_vectors(tally: Tally, folder: Path) -> None:
         path.write_bytes(vector)
         number, says, status = model_says(vector)
         tally.reached[number] += 1
-        tally.compare(f"check_vector on {vector.hex()}", run(EXAMPLES / "check_vector", path), (says, status))
+        found = run(EXAMPLES / "check_vector", path, stack=STACK)
+        tally.compare(f"check_vector on {vector.hex()}", found, (says, status))
     tally.require((TAKEN, *REFUSALS))
