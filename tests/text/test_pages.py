@@ -8,9 +8,11 @@ import unittest
 from common import COURSE, ROOT, run_tool, script_of
 
 from test_errors import START, VECTOR, refusal
+from test_log import log
 from test_sheets import GROUPS, sheets
 from xm import names
 from xm.encoder import encode_script, encode_vector
+from xm.refusal import refusal_lines
 from xm.script import Record
 
 TEXT_PAGE = (ROOT / "docs" / "TEXT.md").read_text()
@@ -57,6 +59,14 @@ class TextPage(unittest.TestCase):
     def test_the_spoiled_partition(self) -> None:
         line = re.search(r"`(record 2 \w+)`", TEXT_PAGE)[1]
         self.assertEqual(encode_vector(f"header none\n{line}".encode()), Record(2, b"\x07\x10\x00A").encoded())
+
+
+    def test_the_log(self) -> None:
+        """The lines of the log are there in one piece, and the refused text gets the three lines."""
+        shown, refused = blocks(TEXT_PAGE)[-2:]
+        self.assertIn(shown, "".join(f"{line}\n" for line in log(script_of(COURSE))))
+        text = b"partition A standard 2000\nplan 1000\nslot A 0 1000\n"
+        self.assertEqual("\n".join(refusal_lines(encode_vector(text), 21, 11, text)) + "\n", refused)
 
 
 class SheetsPage(unittest.TestCase):

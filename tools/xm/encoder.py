@@ -35,6 +35,19 @@ def encode_vector(text: bytes) -> bytes:
     return Encoder(text).vector()
 
 
+def record_lines(text: bytes) -> list[tuple[int | None, int, int]]:
+    """For each record of a text's vector its line, or None for the header that is made; and where it begins and ends."""
+    encoder = Encoder(text)
+    made = encoder.made_header()
+    found: list[tuple[int | None, int, int]] = []
+    start = 0
+    for index, piece in enumerate(made + encoder.records):
+        end = start + len(piece.data)
+        found.append((None if index < len(made) else piece.line, start, end))
+        start = end
+    return found
+
+
 def joined(pieces: list[Piece]) -> bytes:
     """The bytes of all pieces."""
     return b"".join(piece.data for piece in pieces)
