@@ -24,9 +24,9 @@ from xm.encoder import encode_script
 from xm.group import Group, read_group
 from xm.output import BOARDS, Answer, Block, NoOutput, read_output
 from xm.page import html_sheet
-from xm.plain import plain_sheet
+from xm.plain import WIDTH, event_lines, plain_sheet
 from xm.script import split_script
-from xm.sheet import NoSheet, is_own, make_sheet
+from xm.sheet import Entry, NoSheet, is_own, make_sheet
 
 SEED = 43
 HISTORIES = 16
@@ -290,6 +290,14 @@ class Contents(unittest.TestCase):
                               (5, "= at 200 µs MEM_PROTECTION of partition 2, action suspend; 2 left in the log"),
                               (5, "XM_resume_partition  target partition 2\n")):
             self.assertIn(words, sheets(faults, number)[1])
+
+    def test_long_lines_are_broken(self) -> None:
+        """No line of the plain text is wider than WIDTH, and the numbers of an answer stay together."""
+        for length in range(WIDTH // 2, 2 * WIDTH):
+            answer = ("word " * length)[:length]
+            lines = event_lines((Entry(1, 1, 5, "load", answer, answer, "1 22 333", False),))
+            self.assertLessEqual(max(map(len, lines)), WIDTH)
+            self.assertEqual([line.endswith("(1 22 333)") for line in lines], [False] * (len(lines) - 1) + [True])
 
     def test_plans(self) -> None:
         plans = script_of(EXAMPLES / "plans.xm")

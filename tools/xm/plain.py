@@ -2,6 +2,8 @@
 
 from __future__ import annotations
 
+import textwrap
+
 from . import names
 from .group import PlanRow, PortRow
 from .sheet import Entry, Sheet
@@ -10,6 +12,8 @@ from .wording import counted, microseconds
 
 BAR = 80  # letters that stand for a frame
 ROW = 16  # bytes in a line of the area
+WIDTH = 116  # letters in a line
+TIED = "\u00a0"  # a blank at which no line is broken
 
 
 def plain_sheet(sheet: Sheet) -> str:
@@ -90,9 +94,18 @@ def event_lines(entries: tuple[Entry, ...]) -> list[str]:
     lines = []
     for entry in entries:
         margin = f"  {entry.numbering:>{wide}}  {entry.time:>{times},} µs  "
-        lines.append(margin + f"{entry.what}  {entry.details}")
-        lines.append(" " * len(margin) + f"{'!' if entry.refused else '='} {entry.answer}  ({entry.numbers})")
+        lines += broken(margin, f"{entry.what}  {entry.details}")
+        sign = "!" if entry.refused else "="
+        numbers = f"({entry.numbers})".replace(" ", TIED)
+        lines += broken(" " * len(margin) + f"{sign} ", f"{entry.answer}  {numbers}")
     return lines
+
+
+def broken(margin: str, text: str) -> list[str]:
+    """A text behind a margin, broken into lines that begin below each other."""
+    lines = textwrap.wrap(text, WIDTH, initial_indent=margin, subsequent_indent=" " * len(margin),
+                          break_long_words=False, break_on_hyphens=False)
+    return [line.replace(TIED, " ") for line in lines]
 
 
 def area_rows(area: bytes) -> list[str]:
