@@ -16,6 +16,7 @@ from xm.encoder import encode_script  # noqa: E402
 
 EXAMPLES = ROOT / "examples" / "course"
 COURSE = EXAMPLES / "course.xm"
+PROGRAM = ROOT / "target" / "bin" / "xmscript"
 PATIENCE = 60  # seconds for one run of a tool
 
 
@@ -45,3 +46,9 @@ def run_tool(name: str, *arguments: object, data: bytes = b"") -> subprocess.Com
     """Runs one of the tools."""
     command = [sys.executable, str(ROOT / "tools" / name), *map(str, arguments)]
     return subprocess.run(command, input=data, capture_output=True, timeout=PATIENCE)
+
+
+def run_program(data: bytes, *arguments: str) -> str:
+    """What the program prints for a script."""
+    run = subprocess.run([PROGRAM, *arguments], input=data, capture_output=True, timeout=PATIENCE)
+    return run.stdout.decode()

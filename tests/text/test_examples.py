@@ -2,26 +2,18 @@
 
 from __future__ import annotations
 
-import subprocess
 import unittest
 from pathlib import Path
 
-from common import COURSE, EXAMPLES, PATIENCE, ROOT, example_paths, model_output, played, script, script_of
+from common import COURSE, EXAMPLES, PROGRAM, example_paths, model_output, played, run_program, script, script_of
 
 from state import State
 from vector import check
 from xm.decoder import decode_script
 from xm.encoder import encode_script
 
-PROGRAM = ROOT / "target" / "bin" / "xmscript"
 NEIGHBOURS = EXAMPLES / "neighbours"
 OUTSIDERS = {b"beacon", b"camera"}  # of attitude and of dosimeter
-
-
-def run_program(data: bytes, *arguments: str) -> str:
-    """What the program prints for a script."""
-    run = subprocess.run([PROGRAM, *arguments], input=data, capture_output=True, timeout=PATIENCE)
-    return run.stdout.decode()
 
 
 def kept_lines(path: Path) -> list[str]:
