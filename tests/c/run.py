@@ -1,8 +1,8 @@
 #!/usr/bin/env python3
 """The core as C programs meet it; closes with 'N passed, M failed'.
 
-Builds the static libraries and the examples, and compares what they say with the independent model: verdicts on vectors and
-whole runs. Headers, libraries and the page on them are tried, too.
+Builds the static libraries and the examples, and compares what they say with the independent model: verdicts on
+vectors, and whole runs. Headers, libraries and the page on them are tried, too.
 
     tests/c/run.py                         builds the libraries from the crates
     C_LIBRARIES=kept tests/c/run.py        takes those that are in target/staticlib

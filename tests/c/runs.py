@@ -51,7 +51,7 @@ def pieces(data: bytes) -> tuple[bytes, bytes] | None:
 
 
 def chosen_scripts() -> Iterator[tuple[str, bytes]]:
-    """Directed and random scripts, few of those that only refuse their vector, and one that is too long for a script."""
+    """Directed and random scripts, few of those that only refuse their vector, and one that is too long."""
     refused = 0
     directed = sum(1 for _ in scenarios.directed(WHOLE))
     for name, data in islice(scripts(SEED, WHOLE), directed + RANDOM_SCRIPTS):

@@ -27,7 +27,7 @@ SEED = 44
 HISTORIES = 40
 SPOILED = 300
 
-# A text whose vector is taken. Each change of a line makes the check refuse it there: old, new, the line, number and words.
+# A text whose vector is taken. Each change makes the check refuse a line: old, new, the line, number and words.
 GOOD = """\
 # A comment, so that lines and records do not go together.
 partition A standard 16
@@ -99,7 +99,7 @@ class Events(unittest.TestCase):
             "@7 get_time ! not on the processor: its slot does not run, or it is not READY (-9 0 0)"])
 
     def test_every_line_has_the_numbers_of_the_output(self) -> None:
-        """In every example and in random histories: the same numbers in the same order, and a mark at refusals alone."""
+        """In examples and random histories: the same numbers in the same order, and a mark at refusals alone."""
         rng = Random(SEED)
         scripts = [script_of(path) for path in example_paths()]
         for _ in range(HISTORIES):

@@ -12,12 +12,14 @@ from test_log import log
 from test_sheets import GROUPS, sheets
 from xm import names
 from xm.encoder import encode_script, encode_vector
-from xm.refusal import refusal_lines
+from xm.refusal import MEANINGS, refusal_lines
 from xm.script import Record
+from xm.wording import REFUSALS
 
 TEXT_PAGE = (ROOT / "docs" / "TEXT.md").read_text()
 SHEETS_PAGE = (ROOT / "docs" / "SHEETS.md").read_text()
 MACHINE_PAGE = (ROOT / "docs" / "MACHINE.md").read_text()
+VECTOR_PAGE = (ROOT / "docs" / "VECTOR.md").read_text()
 MISTAKE = re.compile(r"^\| `([^`]+)` \| `([^`]+)` \|$", re.M)
 
 
@@ -55,6 +57,13 @@ class TextPage(unittest.TestCase):
         for number, action in enumerate(names.ACTIONS):
             self.assertIn(f"`{action}`", TEXT_PAGE)
             self.assertIn(f"| {number} | {action.replace('_', ' ')} |", MACHINE_PAGE)
+
+    def test_refusals(self) -> None:
+        """Codes and names of the events' refusals are those of MACHINE.md, the vector's numbers those of VECTOR.md."""
+        rows = re.findall(r"^\| (-\d+) \| ([^(|]+?) (?:\(.*?\) )?\|", MACHINE_PAGE, re.M)
+        self.assertEqual([(str(code), name) for code, (name, _) in REFUSALS.items()], rows)
+        numbers = re.findall(r"^\| (\d\d) \| (?:frame|field|relation) \|", VECTOR_PAGE, re.M)
+        self.assertEqual(list(MEANINGS), [int(number) for number in numbers])
 
     def test_the_spoiled_partition(self) -> None:
         line = re.search(r"`(record 2 \w+)`", TEXT_PAGE)[1]

@@ -244,6 +244,14 @@ class Words(unittest.TestCase):
         self.assertEqual(encode_script((vector + 'A store 7 "a\\"\\\\\\n\\xFFä#"  # a comment').encode()),
                          encode_script((vector + stores).encode()))
 
+    def test_text_comes_back_as_text(self) -> None:
+        """Letters one behind the other are one line; another guest, place, byte or event begins a new one."""
+        events = ('A store 7 "ab \\"c"', "A store 20 100", "B store 21 101", 'B store 4 "xy"', "B store 6 10", "tick 5",
+                  'B store 7 "zz"', "B load 9", "B store 9 122", "B store 9 122", 'A store 4_294_967_294 "ab"')
+        start = "partition A standard 1\npartition B standard 1\n\nevents\n"
+        text = start + "".join(f"{event}\n" for event in events)
+        self.assertEqual(decode_script(encode_script(text.encode())), text)
+
     def test_headers(self) -> None:
         """Made from the counts, given, or none."""
         partition = encode.partition(0, 1, b"A").encoded()

@@ -13,6 +13,7 @@ from common import COURSE, EXAMPLES, model_output, run_tool, script, script_of
 
 import circle as circles
 import encode
+from coverage import CALL_CAUSES
 from design import design
 from encode import Record
 from events import Call, Event, Fault, Line, Load, Store
@@ -27,6 +28,7 @@ from xm.page import html_sheet
 from xm.plain import WIDTH, event_lines, plain_sheet
 from xm.script import split_script
 from xm.sheet import Entry, NoSheet, is_own, make_sheet
+from xm.wording import CALL_REASONS
 
 SEED = 43
 HISTORIES = 16
@@ -298,6 +300,12 @@ class Contents(unittest.TestCase):
             lines = event_lines((Entry(1, 1, 5, "load", answer, answer, "1 22 333", False),))
             self.assertLessEqual(max(map(len, lines)), WIDTH)
             self.assertEqual([line.endswith("(1 22 333)") for line in lines], [False] * (len(lines) - 1) + [True])
+
+    def test_every_refusal_has_its_reason(self) -> None:
+        """The reasons are for what a call can be refused for, and for nothing else; XM_PERM_ERROR has one for all calls."""
+        can_be = {(call, code) for call, codes in CALL_CAUSES.items() for code in codes}
+        system_calls = {(call, -4) for call, codes in CALL_CAUSES.items() if codes.get(-4) == ("system call",)}
+        self.assertEqual(set(CALL_REASONS), can_be - system_calls)
 
     def test_plans(self) -> None:
         plans = script_of(EXAMPLES / "plans.xm")

@@ -7,10 +7,11 @@ from collections import Counter
 from . import names
 from .script import (ACTION, CHANNEL, FAULT, HEADER, IPVI, LINE, LINE_OWNER, LOAD, PARTITION, PLAN, PORT,
                      SLOT, STORE, SYSTEM_FAULT, TICK, Event, Record, split_script, split_vector)
-from .text import named
+from .text import named, quoted
 
 LONG = 10_000  # from here on a number is easier to read with underscores
 INDENT = "    "
+LETTERS = range(0x20, 0x7F)  # bytes that are written as a text where they are stored one behind the other
 BELONGS_TO = {SLOT: PLAN, PORT: CHANNEL}  # which record a record needs above it
 
 
@@ -20,7 +21,7 @@ def decode_script(data: bytes) -> str:
     decoder = Decoder(vector)
     lines = decoder.vector_lines()
     if events:
-        lines += ["", "events"] + [decoder.event_line(event) for event in events]
+        lines += ["", "events"] + decoder.event_lines(events)
     return "".join(f"{line}\n" for line in lines)
 
 
@@ -149,6 +150,22 @@ class Decoder:
 
     # The events
 
+    def event_lines(self, events: list[Event]) -> list[str]:
+        """The lines of all events; a text that is stored byte by byte is one line."""
+        lines = []
+        first = 0
+        while first < len(events):
+            end = end_of_text(events, first)
+            lines.append(self.text_line(events[first:end]) if end - first > 1 else self.event_line(events[first]))
+            first = max(end, first + 1)
+        return lines
+
+    def text_line(self, stores: list[Event]) -> str:
+        """Stores of a text, one byte behind the other."""
+        guest, offset, _ = stores[0].numbers
+        text = quoted(bytes(store.numbers[2] for store in stores))
+        return f"{self.reference(guest)} store {spelled(offset)} {text}"
+
     def event_line(self, event: Event) -> str:
         """The line of one event."""
         if event.kind == TICK:
@@ -202,6 +219,17 @@ RECORD_LINES = {
     LINE_OWNER: Decoder.line_owner_line,
     ACTION: Decoder.action_line,
 }
+
+
+def end_of_text(events: list[Event], first: int) -> int:
+    """Where the stores end that put letters one behind the other, beginning with an event; itself if it is none."""
+    end = first
+    while end < len(events) and events[end].kind == STORE and events[end].numbers[2] in LETTERS:
+        guest, offset, _ = events[first].numbers
+        if events[end].numbers[:2] != (guest, offset + end - first):
+            break
+        end += 1
+    return end
 
 
 def starts_paragraph(before: int | None, kind: int) -> bool:

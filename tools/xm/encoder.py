@@ -36,7 +36,7 @@ def encode_vector(text: bytes) -> bytes:
 
 
 def record_lines(text: bytes) -> list[tuple[int | None, int, int]]:
-    """For each record of a text's vector its line, or None for the header that is made; and where it begins and ends."""
+    """Of each record of a text's vector: its line, or None for a header that is made, and where it begins and ends."""
     encoder = Encoder(text)
     made = encoder.made_header()
     found: list[tuple[int | None, int, int]] = []
