@@ -1,7 +1,10 @@
 /* The vector check of the partitioning core, for C.
  *
  * Link with libvector.a (`tools/archive vector` builds target/staticlib/libvector.a); it needs the C library only.
+ * docs/C.md shows how, and docs/VECTOR.md has the format and each refusal with an example.
+ *
  * The bytes are read and neither kept nor changed. A null pointer is not a vector: pass the length 0 with any valid pointer.
+ * Nothing is allocated, and nothing is kept between calls, so several threads may call at once.
  */
 #ifndef XM_VECTOR_H
 #define XM_VECTOR_H

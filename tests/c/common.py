@@ -33,7 +33,7 @@ def build_libraries() -> None:
 
 def build_examples() -> None:
     """The example programs, by their Makefile."""
-    subprocess.run(["make", "-s", "-B", "-C", str(EXAMPLES), "CC=gcc"], check=True)
+    subprocess.run(["make", "-s", "-C", str(EXAMPLES), "clean", "all", "CC=gcc"], check=True)
 
 
 def run(program: Path, *arguments: object, stack: int | None = None) -> tuple[bytes, int]:

@@ -2,11 +2,12 @@
 
 from __future__ import annotations
 
+import subprocess
 import tempfile
 import unittest
 from pathlib import Path
 
-from common import run_tool
+from common import COURSE, ROOT, run_tool
 
 from xm.encoder import encode_script, encode_vector
 from xm.script import LONGEST_SCRIPT
@@ -256,6 +257,14 @@ class CommandLine(unittest.TestCase):
                 run = run_tool("xmtext", "decode", "-", data=data)
                 self.assertEqual(run.stderr.decode(), f"stdin: this is no script: {reason}\n")
                 self.assertEqual((run.returncode, run.stdout), (1, b""))
+
+    def test_an_output_that_takes_nothing(self) -> None:
+        script_out = COURSE.with_suffix(".out")
+        for name, *arguments in (("xmtext", "encode", COURSE), ("xmlog", COURSE, script_out),
+                                 ("xmsheet", COURSE, script_out, "--group", "camera")):
+            with self.subTest(name), open("/dev/full", "wb") as full:
+                run = subprocess.run([ROOT / "tools" / name, *arguments], stdout=full, stderr=subprocess.PIPE)
+                self.assertEqual((run.returncode, run.stderr), (1, b"the output: No space left on device\n"))
 
     def test_a_file_that_is_not_there(self) -> None:
         run = run_tool("xmtext", "encode", "/nowhere/at/all.xm")

@@ -1,4 +1,4 @@
-"""The files that are given to a tool: a script as bytes or text, and what the program printed for it."""
+"""The files that a tool reads and writes: a script as bytes or text, what the program printed for it, the result."""
 
 from __future__ import annotations
 
@@ -15,9 +15,23 @@ class Failure(Exception):
     """What the person who asked is told."""
 
 
+def in_words(error: OSError) -> str:
+    """A file that cannot be read or written, as one line."""
+    return f"{error.filename or 'the output'}: {error.strerror}"
+
+
 def read_bytes(name: str) -> bytes:
     """The bytes of a file; '-' is the standard input."""
     return sys.stdin.buffer.read() if name == "-" else Path(name).read_bytes()
+
+
+def write_output(name: str | None, data: bytes) -> None:
+    """Writes to a file; '-' and no name are the standard output."""
+    if name is None or name == "-":
+        sys.stdout.buffer.write(data)
+        sys.stdout.buffer.flush()
+    else:
+        Path(name).write_bytes(data)
 
 
 def is_text(name: str) -> bool:
