@@ -2,15 +2,18 @@
 
 from __future__ import annotations
 
+import re
 import unittest
+from collections import Counter
 from pathlib import Path
+from typing import Iterator
 
 from common import COURSE, EXAMPLES, PROGRAM, example_paths, model_output, played, run_program, script, script_of
 
 from state import State
 from vector import check
 from xm.decoder import decode_script
-from xm.encoder import encode_script
+from xm.encoder import Encoder, encode_script
 
 NEIGHBOURS = EXAMPLES / "neighbours"
 OUTSIDERS = {b"beacon", b"camera"}  # of attitude and of dosimeter
@@ -21,6 +24,17 @@ def kept_lines(path: Path) -> list[str]:
     data = script_of(path)
     lines = decode_script(data).split("\nevents\n")[1].splitlines()
     return [line for line in lines if line.split()[0].encode() not in OUTSIDERS]
+
+
+def commented_answers(path: Path) -> Iterator[tuple[str, str]]:
+    """The comment beside each event of an example, and what the model answers; of a text that is stored, its last byte."""
+    text = path.read_bytes()
+    _, answers = played(encode_script(text))
+    written = text.decode().splitlines()
+    lines = [piece.line for piece in Encoder(text).events]
+    for index, (line, answer) in enumerate(zip(lines, answers)):
+        if index + 1 == len(lines) or lines[index + 1] != line:
+            yield written[line - 1].partition("# ")[2], answer
 
 
 class Examples(unittest.TestCase):
@@ -60,6 +74,36 @@ class Examples(unittest.TestCase):
             with self.subTest(path.name):
                 data = script_of(path)
                 self.assertEqual(run_program(data, "areas"), model_output(data, areas=True))
+
+
+class Comments(unittest.TestCase):
+    """What the examples' comments say of the answers."""
+
+    def test_refused_and_answers_and_messages(self) -> None:
+        """'refused' is a code below 0, 'answers N' the code N, 'N bytes, sent at T' the code N and the time T."""
+        seen = Counter()
+        for path in example_paths():
+            for comment, answer in commented_answers(path):
+                code, a, _ = answer.split()
+                with self.subTest(path=path.name, comment=comment):
+                    if comment.startswith("refused"):
+                        self.assertLess(int(code), 0)
+                        seen["refused"] += 1
+                    for said in re.findall(r"^answers (\d+)", comment):
+                        self.assertEqual(code, said)
+                        seen["answers"] += 1
+                    for length, time in re.findall(r"^(\d+) bytes, sent at ([\d,]+)", comment):
+                        self.assertEqual((code, a), (length, time.replace(",", "")))
+                        seen["messages"] += 1
+        self.assertEqual({what: count > 1 for what, count in seen.items()},
+                         {"refused": True, "answers": True, "messages": True})
+
+    def test_every_refusal_is_commented(self) -> None:
+        """Not where the neighbours try whatever they can think of."""
+        for path in EXAMPLES.glob("*.xm"):
+            for comment, answer in commented_answers(path):
+                with self.subTest(path=path.name, comment=comment):
+                    self.assertEqual(comment.startswith("refused"), answer.startswith("-"))
 
 
 class Course(unittest.TestCase):
