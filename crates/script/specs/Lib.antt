@@ -1,3 +1,4 @@
 pub mod Format
+pub mod Errors
 pub mod Lines
 pub mod Reading

@@ -1,1 +1,4 @@
 pub mod Events
+pub mod Appending
+pub mod Hex
+pub mod Boards

@@ -2,12 +2,16 @@
 //! at the end.
 #![tactic(auto)]
 
-ghost use Rattle.std.specs.Prelude.{◌≡◌, ◌≤◌, true};
+ghost use Rattle.std.specs.Prelude.{◌≡◌, ◌≤◌, true, OnOk, IfSome};
+ghost use Rattle.std.specs.Io.KnownBytes.{Appends};
 ghost use Rattle.vector.specs.Reading.{takes, tables as tables_of};
 ghost use Rattle.machine.specs.Runs.{lines_of, events_of, lines};
 ghost use Rattle.machine.specs.Step.{boot as boot_of};
 ghost use Rattle.stage.specs.Layouts.{zeroed};
 ghost use Rattle.xmscript.specs.Words.{areas_of};
+ghost use Rattle.xmscript.specs.Areas.{area_bytes, area_line, area_lines};
+ghost use Rattle.xmscript.specs.Boards.{answer_lines, board_text, boards_text};
+ghost use Rattle.xmscript.specs.Output.{output_of};
 
 use board::Board;
 use kernel::{System, run};
@@ -16,8 +20,9 @@ use script::error::ScriptError;
 use script::line::{Line, Refused};
 use script::read_script;
 use stage::{fenced, paged};
-use std::env;
-use std::io::Read;
+use std::alloc::Global;
+use std::io::{BufWriter, Read, Write};
+use std::{env, io};
 use vector::check;
 use vector::checked::Checked;
 use vector::tables::Tables;
@@ -46,6 +51,113 @@ impl Wanted {
     }
 }
 
+/// Prints the bytes of a partition's area.
+fn show_bytes<B: Board, W: Write>(system: &System<B>, i: u8, writer: &mut W) -> io::Result<()>
+    ensures { OnOk result (Appends (W.contents writer.old) (W.contents writer.new) (area_bytes (B.areas system.now.board) i)) }
+{
+    for at in 0..LARGEST {
+        let Some(byte) = system.byte(i, at) else {
+            return Ok(());
+        };
+        write!(writer, "{byte:02x}")?;
+    }
+    Ok(())
+}
+
+/// Prints the line of a partition's area.
+fn show_area<B: Board, W: Write>(system: &System<B>, i: u8, writer: &mut W) -> io::Result<()>
+    ensures { OnOk result (Appends (W.contents writer.old) (W.contents writer.new) (area_line (B.areas system.now.board) i)) }
+{
+    write!(writer, "area {i} ")?;
+    show_bytes(system, i, writer)?;
+    writer.writeln("")
+}
+
+/// Prints the areas of the first `shown` partitions.
+fn show_areas<B: Board, W: Write>(system: &System<B>, shown: u8, writer: &mut W) -> io::Result<()>
+    ensures { OnOk result (Appends (W.contents writer.old) (W.contents writer.new) (area_lines (B.areas system.now.board) shown)) }
+{
+    // an area is shown and headed by its number, so the range is the iterator
+    for i in 0..shown {
+        show_area(system, i, writer)?;
+    }
+    Ok(())
+}
+
+/// Prints what each event was answered.
+fn show_answers<W: Write>(history: &[Exchange], writer: &mut W) -> io::Result<()>
+    ensures { OnOk result (Appends (W.contents writer.old) (W.contents writer.new) (answer_lines (lines_of history.now))) }
+{
+    for exchange in history {
+        writer.writeln(Line(exchange.answer))?;
+    }
+    Ok(())
+}
+
+// A boot spends a `Checked` and there are two boots, so that the bytes are taken is asked of both functions below.
+/// Boots the vector on a board, takes the history, and prints the board's heading, each answer, and the areas of the first
+/// `shown` partitions. The history has the machine's answers afterwards, also where a print fails.
+fn play<B: Board + Drop, W: Write>(
+    heading: &str,
+    bytes: &[u8],
+    board: B,
+    history: &mut [Exchange],
+    shown: u8,
+    writer: &mut W,
+) -> io::Result<()>
+    requires { takes bytes.now ≡ true }
+    ensures answered { lines_of history.new ≡ lines (tables_of bytes.now) (boot_of (tables_of bytes.now) (B.areas board)) (events_of history.old) }
+    ensures printed { OnOk result (Appends (W.contents writer.old) (W.contents writer.new) (board_text heading.now (tables_of bytes.now) (B.areas board) (events_of history.old) shown)) }
+{
+    let system = run(Checked::new(bytes), board, history);
+    writer.writeln(heading)?;
+    show_answers(history, writer)?;
+    show_areas(&system, shown, writer)
+}
+
+/// Plays a history on the fenced and on the paged board. Their areas are the same, and so are the answers.
+fn play_each<W: Write>(
+    bytes: &[u8],
+    history: &mut [Exchange],
+    wanted: Wanted,
+    writer: &mut W,
+) -> io::Result<()>
+    requires { takes bytes.now ≡ true }
+    ensures answered { lines_of history.new ≡ lines (tables_of bytes.now) (boot_of (tables_of bytes.now) (zeroed (tables_of bytes.now))) (events_of history.old) }
+    ensures printed { OnOk result (Appends (W.contents writer.old) (W.contents writer.new) (boards_text (tables_of bytes.now) (events_of history.old) wanted)) }
+{
+    let tables = Checked::new(bytes).tables();
+    let shown = wanted.areas(&tables);
+    play("fenced", bytes, fenced(&tables), history, shown, writer)?;
+    play("paged", bytes, paged(&tables), history, shown, writer)
+}
+
+/// Reads a script, and prints what it is answered and nothing else.
+fn play_script<R: Read, W: Write>(
+    alloc: Global,
+    wanted: Wanted,
+    reader: &mut R,
+    writer: &mut W,
+) -> anyhow::Result<()>
+    ensures { OnOk result (IfSome (R.remaining reader.old) (λ input. Appends (W.contents writer.old) (W.contents writer.new) (output_of input wanted))) }
+{
+    let mut input = Vec::new(alloc);
+    reader.read_to_end(&mut input)?;
+    let mut script = match read_script(alloc, input.as_slice()) {
+        Ok(script) => script,
+        Err(error @ ScriptError::Malformed) => {
+            writer.writeln(error)?;
+            return Ok(());
+        }
+        Err(error @ ScriptError::OutOfMemory) => return Err(error.into()),
+    };
+    match check(script.vector) {
+        Ok(()) => play_each(script.vector, script.history.as_mut_slice(), wanted, writer)?,
+        Err(refusal) => writer.writeln(Refused(refusal))?,
+    }
+    Ok(())
+}
+
 /// The areas are wanted where the word `areas` is given.
 fn read_words(rt: &HostRuntime) -> anyhow::Result<Wanted> {
     if env::args(rt)?.skip(1).any(|word| word.as_str() == "areas") {
@@ -55,79 +167,11 @@ fn read_words(rt: &HostRuntime) -> anyhow::Result<Wanted> {
     }
 }
 
-/// Prints the bytes of a partition's area.
-fn show_area<B: Board>(rt: &impl Print, system: &System<B>, i: u8) -> anyhow::Result<()> {
-    print!(rt; "area {i} ")?;
-    for byte in (0..LARGEST).map_while(|at| system.byte(i, at)) {
-        print!(rt; "{byte:02x}")?;
-    }
-    rt.println("")?;
-    Ok(())
-}
-
-// A boot spends a `Checked` and there are two boots, so that the bytes are taken is asked of both functions below.
-/// Boots the vector on a board, takes the history, and prints the board's heading, each answer, and the areas of the first
-/// `shown` partitions. The history has the machine's answers afterwards, also where a print fails.
-fn play<B: Board + Drop>(
-    rt: &impl Print,
-    heading: &str,
-    bytes: &[u8],
-    board: B,
-    history: &mut [Exchange],
-    shown: u8,
-) -> anyhow::Result<()>
-    requires { takes bytes.now ≡ true }
-    ensures { lines_of history.new ≡ lines (tables_of bytes.now) (boot_of (tables_of bytes.now) (B.areas board)) (events_of history.old) }
-{
-    let system = run(Checked::new(bytes), board, history);
-    rt.println(heading)?;
-    for exchange in &*history {
-        rt.println(Line(exchange.answer))?;
-    }
-    // an area is shown and headed by its number, so the range is the iterator
-    for i in 0..shown {
-        show_area(rt, &system, i)?;
-    }
-    Ok(())
-}
-
-/// Plays a history on the fenced and on the paged board. Their areas are the same, and so are the answers.
-fn play_each(
-    rt: &impl Print,
-    bytes: &[u8],
-    history: &mut [Exchange],
-    wanted: Wanted,
-) -> anyhow::Result<()>
-    requires { takes bytes.now ≡ true }
-    ensures { lines_of history.new ≡ lines (tables_of bytes.now) (boot_of (tables_of bytes.now) (zeroed (tables_of bytes.now))) (events_of history.old) }
-{
-    let tables = Checked::new(bytes).tables();
-    let shown = wanted.areas(&tables);
-    play(rt, "fenced", bytes, fenced(&tables), history, shown)?;
-    play(rt, "paged", bytes, paged(&tables), history, shown)
-}
-
-fn play_script(rt: &HostRuntime) -> anyhow::Result<()> {
-    let wanted = read_words(rt)?;
-    let mut input = Vec::new(rt.alloc());
-    rt.stdin().read_to_end(&mut input)?;
-    let mut script = match read_script(rt.alloc(), input.as_slice()) {
-        Ok(script) => script,
-        Err(error @ ScriptError::Malformed) => {
-            rt.println(error)?;
-            return Ok(());
-        }
-        Err(error @ ScriptError::OutOfMemory) => return Err(error.into()),
-    };
-    match check(script.vector) {
-        Ok(()) => play_each(rt, script.vector, script.history.as_mut_slice(), wanted),
-        Err(refusal) => {
-            rt.println(Refused(refusal))?;
-            Ok(())
-        }
-    }
-}
-
+// No contract can say what the streams give and take, so this opens them and no more.
 fn main(rt: HostRuntime) -> anyhow::Result<()> {
-    play_script(&rt)
+    let wanted = read_words(&rt)?;
+    let mut output = BufWriter::new(rt.alloc(), io::writer(&rt))?;
+    play_script(rt.alloc(), wanted, &mut rt.stdin(), &mut output)?;
+    output.flush()?;
+    Ok(())
 }
