@@ -29,6 +29,10 @@ read_after zero (b ∷ bs) = before (first (b ∷ bs)) (read_after (3 + short_at
 abbrev pub read_of : List ℕ → Read
 read_of bs = read_after 0 bs
 
+-- the events of a script that has these records: none where one is malformed
+abbrev pub events_in : Read → Option (List Event)
+events_in r = cond r.whole (Some r.events) None
+
 -- how many answers there is room for
 abbrev pub room_in : List ℕ → ℕ
 room_in bs = length bs / 12

@@ -5,7 +5,8 @@ ghost use Rattle.std.specs.Prelude.{◌≡◌, if◌then◌else◌};
 ghost use Rattle.vector.specs.Reading.{takes, verdict, tables as tables_of};
 ghost use Rattle.kernel.specs.World.{world_of, booted};
 ghost use Rattle.stage.specs.Layouts.{zeroed};
-ghost use Rattle.entrance.specs.Session.{read_of, room_in, ending, ending_of, records_end, written, reached};
+ghost use Rattle.script.specs.Format.{events_of};
+ghost use Rattle.entrance.specs.Session.{events_in, read_of, room_in, ending, ending_of, records_end, written, reached};
 
 use crate::encoding::write_answer;
 use crate::error::EntranceError;
@@ -48,10 +49,12 @@ fn answer_all<B: Board>(
 
 /// Boots a vector on a fenced board of zeros, takes the event records one after another, and writes each answer as 12 bytes:
 /// code, a and b, each with the low byte first. The result is the number of events answered, where all are. What was written
-/// before an error stays, and nothing else of the answers changes.
+/// before an error stays, and nothing else of the answers changes. The records are read as a script's are.
+#[tactic(auto, using(crate::proofs::Joining::events_read))]
 pub fn run(vector: &[u8], records: &[u8], answers: &mut [u8]) -> Result<usize, EntranceError>
     ensures ending { ending_of result ≡ ending (verdict vector.now) (read_of records.now) (room_in answers.old) }
     ensures bytes { answers.new ≡ (if takes vector.now then written (booted (tables_of vector.now) (zeroed (tables_of vector.now))) (read_of records.now) answers.old else answers.old) }
+    ensures read { events_of records.now ≡ events_in (read_of records.now) }
 {
     check(vector)?;
     let tables = Checked::new(vector).tables();
