@@ -3,12 +3,13 @@
 #![tactic(auto)]
 
 ghost use Rattle.std.specs.Prelude.{◌≡◌, ◌≤◌, true, OnOk, IfSome};
+ghost use Rattle.std.specs.List.{list_any};
 ghost use Rattle.std.specs.Io.KnownBytes.{Appends};
 ghost use Rattle.vector.specs.Reading.{takes, tables as tables_of};
 ghost use Rattle.machine.specs.Runs.{lines_of, events_of, lines};
 ghost use Rattle.machine.specs.Step.{boot as boot_of};
 ghost use Rattle.stage.specs.Layouts.{zeroed};
-ghost use Rattle.xmscript.specs.Words.{areas_of};
+ghost use Rattle.xmscript.specs.Words.{areas_of, is_areas, wanted_of};
 ghost use Rattle.xmscript.specs.Areas.{area_bytes, area_line, area_lines};
 ghost use Rattle.xmscript.specs.Boards.{answer_lines, board_text, boards_text};
 ghost use Rattle.xmscript.specs.Output.{output_of};
@@ -30,6 +31,13 @@ use vector::tables::Tables;
 /// No area is larger.
 const LARGEST: usize = 1024;
 
+/// Is one of the words `areas`?
+fn ask_areas(words: &[String]) -> bool
+    ensures { result ≡ list_any is_areas words.now }
+{
+    words.iter().any(|word| word.as_str() == "areas")
+}
+
 /// What the program is asked to print.
 #[derive(Clone, Copy)]
 enum Wanted {
@@ -38,6 +46,17 @@ enum Wanted {
 }
 
 impl Wanted {
+    /// The areas are wanted where one of the words is `areas`.
+    fn of(words: &[String]) -> Wanted
+        ensures { result ≡ wanted_of words.now }
+    {
+        if ask_areas(words) {
+            Wanted::Areas
+        } else {
+            Wanted::Answers
+        }
+    }
+
     // The bound is the one that every taken vector keeps; the tables are plain values, so it is asked where it is needed.
     /// How many areas are printed.
     fn areas(self, tables: &Tables) -> u8
@@ -158,18 +177,11 @@ fn play_script<R: Read, W: Write>(
     Ok(())
 }
 
-/// The areas are wanted where the word `areas` is given.
-fn read_words(rt: &HostRuntime) -> anyhow::Result<Wanted> {
-    if env::args(rt)?.skip(1).any(|word| word.as_str() == "areas") {
-        Ok(Wanted::Areas)
-    } else {
-        Ok(Wanted::Answers)
-    }
-}
-
-// No contract can say what the streams give and take, so this opens them and no more.
+// No contract can say what the command line and the streams give and take, so this opens them and no more. The first word is the
+// program's name.
 fn main(rt: HostRuntime) -> anyhow::Result<()> {
-    let wanted = read_words(&rt)?;
+    let words: Vec<String> = env::args(&rt)?.skip(1).collect(rt.alloc())?;
+    let wanted = Wanted::of(words.as_slice());
     let mut output = BufWriter::new(rt.alloc(), io::writer(&rt))?;
     play_script(rt.alloc(), wanted, &mut rt.stdin(), &mut output)?;
     output.flush()?;
