@@ -9,7 +9,7 @@ use Rattle.xmscript.specs.Lines.{ended}
 abbrev pub in_hex : ℕ → List ℕ
 in_hex byte = digit_glyph false (byte / 16) ∷ digit_glyph false (byte % 16) ∷ []
 
--- the bytes of an area, of which there are no more than 1,024
+-- the bytes of an area, up to the 1,024 that a vector gives one at most
 abbrev pub area_bytes : List (List ℕ) → ℕ → List ℕ
 area_bytes areas i = flat_map in_hex (take 1024 (area areas i))
 
