@@ -1,15 +1,16 @@
 -- The algebra of waking: ranges of offsets join, and a range within another adds nothing.
-use Rattle.std.proofs.Common.{◌≡◌, ℕ, zero, suc, ◌+◌, ◌<◌, ◌≤◌, Bool, true, false, ◌&&◌, ◌||◌, eqb, ◌≢◌, List, [], ◌∷◌, ◌++◌, length, get_or, take, set, sym, refl, ap, ◌∙◌, arith}
-use Rattle.std.proofs.lemmas.Bool.{eq-eqb, ne_eqb}
+use Rattle.std.proofs.Common.{◌≡◌, ℕ, zero, suc, ◌+◌, ◌<◌, ◌≤◌, Bool, true, false, ◌&&◌, ◌||◌, eqb, ◌≢◌, List, [], ◌∷◌, ◌++◌, length, get_or, take, set, sym, refl, ap, ap₂, ◌∙◌, arith}
+use Rattle.std.specs.List.{list_any}
+use Rattle.std.proofs.lemmas.Bool.{both_ways, eq-eqb, ne_eqb}
 use Rattle.std.proofs.lemmas.Bool.Decides.{nat_tests}
 use Rattle.std.proofs.lemmas.List.{take_more}
 use Rattle.vector.specs.declared.tables.Slot.{Slot}
 use Rattle.machine.specs.declared.partition.Status.{Status}
 use Rattle.machine.specs.declared.partition.Status.TheVariants.{Halted, Ready, Idle, Suspended}
 use Rattle.machine.specs.declared.partition.Partition.{Partition}
-use Rattle.machine.specs.Partitions.{with_status, roused, woken}
+use Rattle.machine.specs.Partitions.{with_status, is_idle, roused, woken}
 use Rattle.machine.specs.Time.{due_at, each_from, wakes, wake_at}
-use Rattle.clock.specs.Ranges.{within, begins, starts, wakes_in, wake}
+use Rattle.clock.specs.Ranges.{sleeps, within, begins, starts, wakes_in, wake}
 
 or_false : (x : Bool) → (x || false) ≡ x
 or_false true = refl
@@ -69,6 +70,11 @@ starts-push : (ss : List Slot) (s : Slot) (a b q : ℕ) → starts (ss ++ s ∷ 
 unfolding starts
 starts-push [] s a b q = or_false (begins s a b q)
 starts-push (x ∷ ss) s a b q = ap (λ z. begins x a b q || z) (starts-push ss s a b q) ∙ or_assoc (begins x a b q) (starts ss a b q) (begins s a b q)
+
+or_none : (x y : Bool) → (x || y) ≡ false → (x ≡ false) × (y ≡ false)
+or_none false false e = (refl, refl)
+or_none false true e = absurd (both_ways true e refl)
+or_none true y e = absurd (both_ways true e refl)
 
 roused_twice : (s : Status) → roused (roused s) ≡ roused s
 roused_twice Halted = refl
@@ -161,3 +167,23 @@ pub wake-turn : (ss : List Slot) (i a b : ℕ) (ps : List Partition) (s : Slot) 
     wake (take (i + 1) ss) a b ps
     ≡ set (wake (take i ss) a b ps) (get_or ss i s).partition (woken (within a b (get_or ss i s).start) (get_or (wake (take i ss) a b ps) (get_or ss i s).partition d))
 wake-turn ss i a b ps s d l = ap (λ z. wake z a b ps) (take_more ss i s l) ∙ wake-push (take i ss) (get_or ss i s) a b ps d
+
+-- a partition that does not sleep is not woken
+woken_awake : (s : Status) (b : Bool) (p : Partition) → p.status ≡ s → is_idle s ≡ false → woken b p ≡ p
+woken_awake s false p e n = refl
+woken_awake Halted true p e n = ap (λ z. with_status (roused z) p) e ∙ ap (λ z. with_status z p) (sym e)
+woken_awake Ready true p e n = ap (λ z. with_status (roused z) p) e ∙ ap (λ z. with_status z p) (sym e)
+woken_awake Idle true p e n = absurd (both_ways true n refl)
+woken_awake Suspended true p e n = ap (λ z. with_status (roused z) p) e ∙ ap (λ z. with_status z p) (sym e)
+
+each_awake : (ss : List Slot) (a b i : ℕ) (ps : List Partition) → list_any sleeps ps ≡ false → each_from (wakes_in ss a b) i ps ≡ ps
+unfolding each_from
+each_awake ss a b i [] n = refl
+each_awake ss a b i (p ∷ ps) n =
+    let m = or_none (sleeps p) (list_any sleeps ps) n in
+    ap₂ ◌∷◌ (woken_awake p.status (starts ss a b i) p refl m.0) (each_awake ss a b (i + 1) ps m.1)
+
+-- where nobody sleeps nobody wakes
+pub wake_awake : (ss : List Slot) (a b : ℕ) (ps : List Partition) → list_any sleeps ps ≡ false → ps ≡ wake ss a b ps
+unfolding wake
+wake_awake ss a b ps n = sym (each_awake ss a b 0 ps n)

@@ -2,8 +2,12 @@
 use Rattle.std.specs.Prelude.{ℕ, ◌+◌, Bool, false, cond, ◌&&◌, ◌||◌, List, [], ◌∷◌, ◌==◌, nat_le, nat_lt}
 use Rattle.vector.specs.declared.tables.Slot.{Slot}
 use Rattle.machine.specs.declared.partition.Partition.{Partition}
-use Rattle.machine.specs.Partitions.{woken}
+use Rattle.machine.specs.Partitions.{is_idle, woken}
 use Rattle.machine.specs.Time.{each_from}
+
+-- is the partition idle
+abbrev pub sleeps : Partition → Bool
+sleeps p = is_idle p.status
 
 -- does the offset o lie within lo..hi
 abbrev pub within : ℕ → ℕ → ℕ → Bool

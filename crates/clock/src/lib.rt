@@ -2,10 +2,11 @@
 #![tactic(auto)]
 
 ghost use Rattle.std.specs.Prelude.{◌≡◌, ◌-◌, ◌<◌, ◌≤◌};
+ghost use Rattle.std.specs.List.{list_any};
 ghost use Rattle.vector.specs.Sound.{SoundPlan, SoundPlans};
 ghost use Rattle.machine.specs.Questions.{slots_of};
 ghost use Rattle.machine.specs.Time.{plan_at, timed, micros};
-ghost use Rattle.clock.specs.Ranges.{wake, upto};
+ghost use Rattle.clock.specs.Ranges.{sleeps, wake, upto};
 ghost use Rattle.clock.specs.Timely.{Timely};
 
 use machine::clock::{Clock, Time};
@@ -70,8 +71,26 @@ fn pass_over(plans: &Plans, clock: &mut Clock, parts: &mut [Partition; 8], t: Ti
     };
 }
 
-/// Wakes each idle partition that has a slot starting at one of the offsets.
+/// Whether a partition is idle.
+fn has_sleeper(parts: &[Partition; 8]) -> bool
+    ensures { result ≡ list_any sleeps parts.now }
+{
+    parts.iter().any(|partition| partition.status.is_idle())
+}
+
+/// Wakes each idle partition that has a slot starting at one of the offsets; where none is idle, no slot is looked at.
+#[tactic(auto, using(crate::proofs::Waking::wake_awake))]
 fn wake(plan: &Plan, parts: &mut [Partition; 8], offsets: Range<Time>)
+    requires { SoundPlan plan.now }
+    ensures { parts.new ≡ wake (slots_of plan.now) offsets.start offsets.end parts.old }
+{
+    if has_sleeper(parts) {
+        wake_each(plan, parts, offsets);
+    }
+}
+
+/// Looks at each slot, and wakes its partition where the slot starts at one of the offsets.
+fn wake_each(plan: &Plan, parts: &mut [Partition; 8], offsets: Range<Time>)
     requires { SoundPlan plan.now }
     ensures { parts.new ≡ wake (slots_of plan.now) offsets.start offsets.end parts.old }
 {

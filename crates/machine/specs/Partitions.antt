@@ -64,6 +64,12 @@ is_ready Ready = true
 is_ready Idle = false
 is_ready Suspended = false
 
+abbrev pub is_idle : Status → Bool
+is_idle Halted = false
+is_idle Ready = false
+is_idle Idle = true
+is_idle Suspended = false
+
 -- READY or IDLE
 abbrev pub is_active : Status → Bool
 is_active Halted = false

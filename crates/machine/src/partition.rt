@@ -1,7 +1,7 @@
 // The record of a partition, and what can happen to it.
 ghost use Rattle.std.specs.Prelude.{◌≡◌, ◌<◌, Bool};
 ghost use Rattle.machine.specs.Answers.{status_number};
-ghost use Rattle.machine.specs.Partitions.{fresh, is_ready, is_active, is_suspended, is_open, hidden, halted, suspended, resumed, idled, opened, masked, unmasked, acknowledged, signalled, woken};
+ghost use Rattle.machine.specs.Partitions.{fresh, is_ready, is_idle, is_active, is_suspended, is_open, hidden, halted, suspended, resumed, idled, opened, masked, unmasked, acknowledged, signalled, woken};
 
 /// The state of a partition.
 #[derive(Clone, Copy, Debug, PartialEq, Eq)]
@@ -18,6 +18,12 @@ impl Status {
         ensures { result ≡ is_active self }
     {
         matches!(self, Status::Ready | Status::Idle)
+    }
+
+    pub fn is_idle(self) -> bool
+        ensures { result ≡ is_idle self }
+    {
+        self == Status::Idle
     }
 
     pub fn is_suspended(self) -> bool

@@ -3,7 +3,7 @@ use Rattle.vector.specs.Blank.{slot0}
 use Rattle.machine.specs.Partitions.{nobody, woken}
 use Rattle.clock.specs.Ranges.{within}
 use Rattle.clock.proofs.Waking.{wake_nil, wake-turn}
-use Rattle.clock.proofs.wake.Goals as goal
+use Rattle.clock.proofs.wake_each.Goals as goal
 
 pub loop-slot-init : goal.loop-slot-init
 loop-slot-init c = sym (wake_nil c.args.offsets.start c.args.offsets.end c.args.parts.now)

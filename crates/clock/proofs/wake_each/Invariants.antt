@@ -1,6 +1,6 @@
 use Rattle.std.proofs.Common.{◌≡◌, take}
 use Rattle.clock.specs.Ranges.{wake}
-use Rattle.clock.proofs.wake.Given as goal
+use Rattle.clock.proofs.wake_each.Given as goal
 
 -- the slots so far have woken theirs
 abbrev pub invariant-loop-slot : goal.invariant-loop-slot
