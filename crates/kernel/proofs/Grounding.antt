@@ -7,8 +7,9 @@ use Rattle.vector.specs.Laws.{Lawful}
 use Rattle.vector.specs.Reading.{takes, tables}
 use Rattle.vector.proofs.Laws.{read-lawful, taken-read}
 use Rattle.machine.specs.Time.{clock_of}
+use Rattle.machine.proofs.Schedules.{apart}
 use Rattle.clock.specs.Timely.{Timely}
-use Rattle.kernel.specs.Soundness.{Planned, Framed, Slotted, Owned, Bounded}
+use Rattle.kernel.specs.Soundness.{Planned, Framed, Slotted, Owned, Parted, Bounded}
 
 module _ (t : Tables) (s : Sound t) where
   pub planned : Planned t.plans
@@ -29,6 +30,9 @@ module _ (t : Tables) (s : Sound t) where
   -- the clock starts within the first plan's frame
   pub started : Timely t.plans (clock_of 0 0 0 0)
   started = let f = (s.2.2 0 (omega (arith, s.2.0))).0 in (omega (arith, s.2.0), omega (arith, s.2.0), omega arith, omega (arith, f))
+
+pub parted : (t : Tables) → Lawful t → Parted t.plans
+parted t w i h = apart t i w h
 
 pub takes-lawful : (bs : List ℕ) → takes bs ≡ true → Sound (tables bs) × Lawful (tables bs)
 takes-lawful bs e = let o = taken-read bs e in subst (λ t. Sound t × Lawful t) o.1.1 (read-lawful bs o.0 o.1.0)

@@ -1,7 +1,7 @@
 -- Between the edges of slots the same partition runs, and nobody wakes.
-use Rattle.std.proofs.Common.{◌≡◌, ℕ, ◌+◌, ◌-◌, ◌<◌, ◌≤◌, min, Bool, true, false, cond, ◌&&◌, ◌||◌, eqb, leb, ltb, List, [], ◌∷◌, length, get_or, drop, Some, inl, inr, sym, refl, ap, ap₂, ◌∙◌, arith}
-use Rattle.std.proofs.lemmas.List.{drop_more, drop_all}
-use Rattle.std.proofs.Math.Nat.{min-le_left, min-le_right}
+use Rattle.std.proofs.Common.{◌≡◌, ℕ, suc, ◌+◌, ◌-◌, ◌<◌, ◌≤◌, min, Bool, true, false, cond, ◌&&◌, ◌||◌, eqb, leb, ltb, List, [], ◌∷◌, length, get_or, drop, Some, None, Option, inl, inr, sym, refl, ap, ap₂, ◌∙◌, arith}
+use Rattle.std.proofs.lemmas.List.{drop_more, drop_all, length-drop, length-take, get_or-drop, get_or-take}
+use Rattle.std.proofs.Math.Nat.{min-le_left, min-le_right, min-eq_left, min-eq_right}
 use Rattle.std.proofs.lemmas.Bool.{both_ways, cases_lt, cond-true, cond-false, lt-ltb, le-ltb, eq-eqb}
 use Rattle.std.proofs.lemmas.Bool.Decides.{nat_tests}
 use Rattle.vector.specs.Tables.{Plans}
@@ -10,6 +10,9 @@ use Rattle.vector.specs.declared.tables.Slot.{Slot}
 use Rattle.vector.specs.Blank.{slot0}
 use Rattle.machine.specs.declared.clock.Clock.{Clock}
 use Rattle.machine.specs.declared.partition.Partition.{Partition}
+use Rattle.vector.specs.Fair.{Within}
+use Rattle.vector.specs.Laws.{slot_at}
+use Rattle.machine.specs.Searches.{Apart}
 use Rattle.machine.specs.Questions.{slots_of, covers, holder}
 use Rattle.machine.specs.Time.{plan_at, clock_of, timed, micros}
 use Rattle.clock.specs.Ranges.{within, starts}
@@ -122,11 +125,100 @@ calm_passed ps k qs t u h f l m =
     pass_in ps t k.time k.plan k.next k.start qs f l (omega (arith, m, h.2))
     ∙ ap (timed (clock_of t k.plan k.next k.start)) (wake-calm ss (k.time - k.start + 1) (t - k.start + 1) qs (λ q. no_starts (k.time - k.start) u.until ss (t - k.start) q h.1 m))
 
--- a turn of the loop over the slots
-pub first_edge-more : (ss : List Slot) (i o u : ℕ) → i < length ss → first_edge (drop i ss) o u ≡ first_edge (drop (i + 1) ss) o (edge (get_or ss i slot0) o u)
-unfolding first_edge
-first_edge-more ss i o u h = ap (λ xs. first_edge xs o u) (drop_more ss i slot0 h)
+-- whose slot of a list runs at the offset o, and where that may change before u
+abbrev pub turn_in : List Slot → ℕ → ℕ → Turn
+turn_in ss o u = record { holder = holder ss o; until = first_edge ss o u }
 
-pub first_edge-end : (ss : List Slot) (i o u : ℕ) → length ss ≤ i → first_edge (drop i ss) o u ≡ u
+abbrev pub end_of : Slot → ℕ
+end_of s = s.start + s.duration
+
+abbrev pub nth : List Slot → ℕ → Slot
+nth ss i = get_or ss i slot0
+
+-- every slot starts at b or later
+abbrev From : ℕ → List Slot → Type 0
+From b ss = (j : ℕ) → j < length ss → b ≤ (nth ss j).start
+
+-- no slot begins before those in front of it have ended, and none goes beyond f
+abbrev pub Ordered : ℕ → List Slot → Type 0
+Ordered f ss = ((i j : ℕ) → i < j → j < length ss → end_of (nth ss i) ≤ (nth ss j).start) × ((j : ℕ) → j < length ss → end_of (nth ss j) ≤ f)
+
+-- before all slots nobody runs, and nothing changes before the first one
+none-later : (ss : List Slot) (o b : ℕ) → From b ss → o < b → holder ss o ≡ None
+unfolding holder
+none-later [] o b h l = refl
+none-later (s ∷ ss) o b h l =
+    let c : covers s o ≡ false = grind (arith, nat_tests, h 0 (omega arith)) in
+    cond-false _ _ _ c ∙ none-later ss o b (λ j m. h (suc j) (omega arith)) l
+
+edge-later : (ss : List Slot) (o u b : ℕ) → From b ss → o < b → u ≤ b → first_edge ss o u ≡ u
 unfolding first_edge
-first_edge-end ss i o u h = ap (λ xs. first_edge xs o u) (drop_all i ss h)
+edge-later [] o u b h l m = refl
+edge-later (s ∷ ss) o u b h l m =
+    let n : b ≤ s.start = h 0 (omega arith) in
+    let e : edge s o u ≡ u = cond-true _ _ _ (lt-ltb o s.start (omega arith)) ∙ min-eq_left (omega arith) in
+    ap (first_edge ss o) e ∙ edge-later ss o u b (λ j k. h (suc j) (omega arith)) l m
+
+module _ (s : Slot) (ss : List Slot) (o f : ℕ) where
+  -- in the gap before a slot
+  gap : From (end_of s) ss → end_of s ≤ f → o < s.start → turn_in (s ∷ ss) o f ≡ record { holder = None; until = s.start }
+  unfolding holder first_edge
+  gap h e l =
+      let g : From s.start ss = λ j m. omega (arith, h j m) in
+      let c : covers s o ≡ false = grind (arith, nat_tests) in
+      let b : edge s o f ≡ s.start = cond-true _ _ _ (lt-ltb o s.start l) ∙ min-eq_right (omega arith) in
+      ap₂ (λ (p : Option ℕ) (u : ℕ). record { holder = p; until = u })
+      (cond-false _ _ _ c ∙ none-later ss o s.start g l)
+      (ap (first_edge ss o) b ∙ edge-later ss o s.start s.start g l (omega arith))
+
+  -- in a slot
+  inside : From (end_of s) ss → end_of s ≤ f → s.start ≤ o → o < end_of s → turn_in (s ∷ ss) o f ≡ record { holder = Some s.partition; until = end_of s }
+  unfolding holder first_edge
+  inside h e l m =
+      let c : covers s o ≡ true = grind (arith, nat_tests) in
+      let b : edge s o f ≡ end_of s = cond-false _ _ _ (le-ltb o s.start l) ∙ cond-true _ _ _ (lt-ltb o (end_of s) m) ∙ min-eq_right (omega arith) in
+      ap₂ (λ (p : Option ℕ) (u : ℕ). record { holder = p; until = u })
+      (cond-true _ _ _ c)
+      (ap (first_edge ss o) b ∙ edge-later ss o (end_of s) (end_of s) h m (omega arith))
+
+  -- after it
+  passed : s.start ≤ o → end_of s ≤ o → turn_in (s ∷ ss) o f ≡ turn_in ss o f
+  unfolding holder first_edge
+  passed l m =
+      let c : covers s o ≡ false = grind (arith, nat_tests) in
+      let b : edge s o f ≡ f = cond-false _ _ _ (le-ltb o s.start l) ∙ cond-false _ _ _ (le-ltb o (end_of s) m) in
+      ap₂ (λ (p : Option ℕ) (u : ℕ). record { holder = p; until = u }) (cond-false _ _ _ c) (ap (first_edge ss o) b)
+
+-- turns of the loop over the slots
+module _ (ss : List Slot) (o f i : ℕ) (d : Ordered f ss) where
+  split : i < length ss → turn_in (drop i ss) o f ≡ turn_in (nth ss i ∷ drop (i + 1) ss) o f
+  split h = ap (λ xs. turn_in xs o f) (drop_more ss i slot0 h)
+
+  behind : i < length ss → From (end_of (nth ss i)) (drop (i + 1) ss)
+  behind h j l = omega (arith, d.0 i (i + 1 + j) (omega arith) (omega (arith, l, length-drop (i + 1) ss)), ap (λ (s : Slot). s.start) (get_or-drop (i + 1) ss j slot0))
+
+  pub before_slot : i < length ss → o < (nth ss i).start → turn_in (drop i ss) o f ≡ record { holder = None; until = (nth ss i).start }
+  before_slot h l = split h ∙ gap (nth ss i) (drop (i + 1) ss) o f (behind h) (d.1 i h) l
+
+  pub in_slot : i < length ss → (nth ss i).start ≤ o → o < end_of (nth ss i) → turn_in (drop i ss) o f ≡ record { holder = Some (nth ss i).partition; until = end_of (nth ss i) }
+  in_slot h l m = split h ∙ inside (nth ss i) (drop (i + 1) ss) o f (behind h) (d.1 i h) l m
+
+  pub after_slot : i < length ss → (nth ss i).start ≤ o → end_of (nth ss i) ≤ o → turn_in (drop i ss) o f ≡ turn_in (drop (i + 1) ss) o f
+  after_slot h l m = split h ∙ passed (nth ss i) (drop (i + 1) ss) o f l m
+
+  pub after_all : length ss ≤ i → turn_in (drop i ss) o f ≡ record { holder = None; until = f }
+  unfolding holder first_edge
+  after_all h = ap (λ xs. turn_in xs o f) (drop_all i ss h)
+
+-- the slots of a plan are so
+pub ordered : (p : Plan) (ss : List Slot) → ss ≡ slots_of p → Apart p → Within p → Ordered p.frame ss
+ordered p ss e a w =
+    let same : (j : ℕ) → j < length ss → (j < p.slots.count) × (nth ss j ≡ slot_at j p) = λ j h.
+    let n : j < p.slots.count = omega (arith, h, ap length e, length-take p.slots.count p.slots.rows) in
+    (n, ap (λ xs. nth xs j) e ∙ get_or-take p.slots.count p.slots.rows j slot0 n) in (
+      λ i j l m.
+          let x = same i (omega arith) in
+          let y = same j m in
+          omega (arith, a i j l y.0, ap end_of x.1, ap (λ (s : Slot). s.start) y.1),
+      λ j m. let y = same j m in omega (arith, w j y.0, ap end_of y.1),
+    )

@@ -4,6 +4,7 @@ use Rattle.vector.specs.Tables.{Plans}
 use Rattle.vector.specs.declared.tables.Tables.{Tables}
 use Rattle.vector.specs.Fair.{channel_at}
 use Rattle.vector.specs.Blank.{slot0}
+use Rattle.machine.specs.Searches.{Apart}
 use Rattle.machine.specs.Time.{plan_at}
 
 -- 1 to 4 plans
@@ -21,6 +22,10 @@ Slotted ps = (i : ℕ) → i < ps.count → (plan_at ps i).slots.count ≤ 16
 -- each slot is of a partition below 8
 abbrev pub Owned : Plans → Type 0
 Owned ps = (i j : ℕ) → i < ps.count → j < (plan_at ps i).slots.count → (slice_index_or (plan_at ps i).slots.rows j slot0).partition < 8
+
+-- the slots of each plan are in order, and do not overlap
+abbrev pub Parted : Plans → Type 0
+Parted ps = (i : ℕ) → i < ps.count → Apart (plan_at ps i)
 
 -- the channel of each port takes messages of at most 64 bytes, and at most 8 of them
 abbrev pub Bounded : Tables → Type 0

@@ -4,7 +4,7 @@ ghost use Rattle.vector.specs.Fair.{AllWithin};
 ghost use Rattle.clock.specs.Timely.{Timely};
 ghost use Rattle.lookup.specs.Bounds.{Ported, Joined, Lined};
 ghost use Rattle.machine.specs.Time.{plan_at};
-ghost use Rattle.kernel.specs.Soundness.{Planned, Framed, Slotted, Owned, Bounded};
+ghost use Rattle.kernel.specs.Soundness.{Planned, Framed, Slotted, Owned, Parted, Bounded};
 ghost use Rattle.kernel.specs.Turns.{Turned};
 
 use crate::inner::Core;
@@ -19,6 +19,7 @@ pub struct System<B> {
     ghost slotted: { Slotted core.tables.plans },
     ghost owned: { Owned core.tables.plans },
     ghost within: { AllWithin core.tables.plans },
+    ghost parted: { Parted core.tables.plans },
     ghost ported: { Ported core.tables.ports },
     ghost joined: { Joined core.tables.ports },
     ghost bounded: { Bounded core.tables },

@@ -37,7 +37,7 @@ pub single : (k : Tables) (x : Core) → Single k x
 single k x q r g h = some_same q r (sym (scheduled k x q g).slot ∙ (scheduled k x r h).slot)
 
 -- slots do not overlap
-apart : (k : Tables) (i : ℕ) → Lawful k → i < k.plans.count → Apart (plan k i)
+pub apart : (k : Tables) (i : ℕ) → Lawful k → i < k.plans.count → Apart (plan k i)
 apart k i w h a b l m = ((w.slots i h).1 b m).ascends a l
 
 pub served : (k : Tables) (x : Core) → Lawful k → PlansThere k x → Served k x

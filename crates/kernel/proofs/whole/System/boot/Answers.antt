@@ -1,4 +1,4 @@
-use Rattle.kernel.proofs.Grounding.{planned, framed, slotted, owned, bounded, started}
+use Rattle.kernel.proofs.Grounding.{planned, parted, framed, slotted, owned, bounded, started}
 use Rattle.kernel.proofs.whole.System.boot.Goals as goal
 
 pub invariant_of-result : goal.invariant_of-result
@@ -13,6 +13,7 @@ invariant_of-result g c =
       slotted = slotted t s;
       owned = owned t s;
       within = f.0;
+      parted = parted t c.tables-tables.ensures.lawful;
       ported = s.4.0;
       joined = s.4.1;
       bounded = bounded t s f;
