@@ -1,5 +1,6 @@
 // A record joins those before it, or is refused.
 ghost use Rattle.std.specs.Prelude.{◌≡◌, ◌+◌, ◌^◌, ◌<◌, ◌≤◌, true, length};
+ghost use Rattle.std.specs.Result.{IfErr};
 ghost use Rattle.vector.specs.Bodies.{said_of};
 ghost use Rattle.vector.specs.Rooms.{Room};
 ghost use Rattle.vector.specs.Frames.{suits};
@@ -8,7 +9,7 @@ ghost use Rattle.vector.specs.Out.{out};
 ghost use Rattle.vector.specs.Reading.{heard};
 ghost use Rattle.vector.specs.Reasons.{reason, relation_reason};
 ghost use Rattle.vector.specs.Rows.{open_channel};
-ghost use Rattle.vector.specs.Sofars.{with_header, with_tables};
+ghost use Rattle.vector.specs.Sofars.{with_header};
 
 use crate::bodies::{Body, read_body};
 use crate::event::Event;
@@ -16,60 +17,57 @@ use crate::fault::{Refusal, RelationFault};
 use crate::names::{is_clashing, is_named};
 use crate::record::{Kind, Record};
 use crate::sofar::Sofar;
-use crate::tables::{Channel, Name, PartitionRow, Port, Response, Slot, Tables};
+use crate::tables::{Channel, Name, PartitionRow, Port, Response, Slot};
 
 impl Sofar {
-    fn with_header(self, partitions: u8, plans: u8) -> Sofar
-        ensures { result ≡ with_header partitions plans self }
+    fn set_header(&mut self, partitions: u8, plans: u8)
+        ensures { self.new ≡ with_header partitions plans self.old }
     {
-        Sofar {
-            last: Some(Kind::Header),
-            partitions,
-            plans,
-            ..self
-        }
+        self.last = Some(Kind::Header);
+        self.partitions = partitions;
+        self.plans = plans;
     }
 
-    fn with_tables(self, kind: Kind, tables: Tables) -> Sofar
-        ensures { result ≡ with_tables kind tables self }
-    {
-        Sofar {
-            last: Some(kind),
-            tables,
-            ..self
-        }
-    }
-
-    fn with_partition(self, row: PartitionRow, at: usize) -> Result<Sofar, RelationFault>
-        requires { self.tables.partitions.count < 8 }
-        ensures { out relation_reason (λ s. s) result ≡ joined_partition at self row }
+    fn join_partition(&mut self, row: PartitionRow, at: usize) -> Result<(), RelationFault>
+        requires { self.now.tables.partitions.count < 8 }
+        ensures is { out relation_reason (λ _. self.new) result ≡ joined_partition at self.old row }
+        ensures kept { IfErr result (λ _. self.new ≡ self.old) }
     {
         if is_named(self.tables.partitions.as_slice(), &row.name) {
             return Err(RelationFault::Repeated { at });
         }
-        Ok(self.with_tables(Kind::Partition, self.tables.with_partition(row)))
+        self.tables.add_partition(row);
+        self.last = Some(Kind::Partition);
+        Ok(())
     }
 
-    fn with_slot(self, slot: Slot, at: usize) -> Result<Sofar, RelationFault>
-        requires { (1 ≤ self.tables.plans.count) × (self.tables.plans.count ≤ 4) }
-        ensures { out relation_reason (λ s. s) result ≡ joined_slot at self slot }
+    fn join_slot(&mut self, slot: Slot, at: usize) -> Result<(), RelationFault>
+        requires { (1 ≤ self.now.tables.plans.count) × (self.now.tables.plans.count ≤ 4) }
+        ensures is { out relation_reason (λ _. self.new) result ≡ joined_slot at self.old slot }
+        ensures kept { IfErr result (λ _. self.new ≡ self.old) }
     {
         self.tables.plans.rows[self.tables.plans.count - 1].admit(&slot, at)?;
-        Ok(self.with_tables(Kind::Slot, self.tables.with_slot(slot)))
+        self.tables.add_slot(slot);
+        self.last = Some(Kind::Slot);
+        Ok(())
     }
 
-    fn with_channel(self, channel: Channel, at: usize) -> Result<Sofar, RelationFault>
-        ensures { out relation_reason (λ s. s) result ≡ joined_channel at self channel }
+    fn join_channel(&mut self, channel: Channel, at: usize) -> Result<(), RelationFault>
+        ensures is { out relation_reason (λ _. self.new) result ≡ joined_channel at self.old channel }
+        ensures kept { IfErr result (λ _. self.new ≡ self.old) }
     {
         if self.tables.channels.count >= 8 {
             return Err(RelationFault::TooMany { at });
         }
-        Ok(self.with_tables(Kind::Channel, self.tables.with_channel(channel)))
+        self.tables.add_channel(channel);
+        self.last = Some(Kind::Channel);
+        Ok(())
     }
 
-    fn with_port(self, port: Port, at: usize) -> Result<Sofar, RelationFault>
-        requires { (1 ≤ self.tables.channels.count) × ((self.tables.channels.count ≤ 8) × ((open_channel self.tables).ports ≤ self.tables.ports.count)) }
-        ensures { out relation_reason (λ s. s) result ≡ joined_port at self port }
+    fn join_port(&mut self, port: Port, at: usize) -> Result<(), RelationFault>
+        requires { (1 ≤ self.now.tables.channels.count) × ((self.now.tables.channels.count ≤ 8) × ((open_channel self.now.tables).ports ≤ self.now.tables.ports.count)) }
+        ensures is { out relation_reason (λ _. self.new) result ≡ joined_port at self.old port }
+        ensures kept { IfErr result (λ _. self.new ≡ self.old) }
     {
         if self.tables.is_full() {
             return Err(RelationFault::TooMany { at });
@@ -77,68 +75,86 @@ impl Sofar {
         if is_clashing(self.tables.ports.as_slice(), &port) {
             return Err(RelationFault::Repeated { at });
         }
-        Ok(self.with_tables(Kind::Port, self.tables.with_port(port)))
+        self.tables.add_port(port);
+        self.last = Some(Kind::Port);
+        Ok(())
     }
 
-    fn with_link(self, number: u8, source: u8, mask: u8, at: usize) -> Result<Sofar, RelationFault>
+    fn join_link(
+        &mut self,
+        number: u8,
+        source: u8,
+        mask: u8,
+        at: usize,
+    ) -> Result<(), RelationFault>
         requires { (number < 8) × (source < 8) }
-        ensures { out relation_reason (λ s. s) result ≡ joined_link at self number source mask }
+        ensures is { out relation_reason (λ _. self.new) result ≡ joined_link at self.old number source mask }
+        ensures kept { IfErr result (λ _. self.new ≡ self.old) }
     {
         if self.tables.partitions.rows[source as usize].links[number as usize].is_some() {
             return Err(RelationFault::Repeated { at });
         }
-        Ok(self.with_tables(Kind::Ipvi, self.tables.with_link(number, source, mask)))
+        self.tables.set_link(number, source, mask);
+        self.last = Some(Kind::Ipvi);
+        Ok(())
     }
 
-    fn with_line(self, line: u8, partition: u8, at: usize) -> Result<Sofar, RelationFault>
+    fn join_line(&mut self, line: u8, partition: u8, at: usize) -> Result<(), RelationFault>
         requires { line < 16 }
-        ensures { out relation_reason (λ s. s) result ≡ joined_line at self line partition }
+        ensures is { out relation_reason (λ _. self.new) result ≡ joined_line at self.old line partition }
+        ensures kept { IfErr result (λ _. self.new ≡ self.old) }
     {
         if self.tables.lines[line as usize].is_some() {
             return Err(RelationFault::Repeated { at });
         }
-        Ok(self.with_tables(Kind::Line, self.tables.with_line(line, partition)))
+        self.tables.set_line(line, partition);
+        self.last = Some(Kind::Line);
+        Ok(())
     }
 
-    fn with_action(
-        self,
+    fn join_action(
+        &mut self,
         event: Event,
         response: Response,
         at: usize,
-    ) -> Result<Sofar, RelationFault>
-        ensures { out relation_reason (λ s. s) result ≡ joined_action at self event.scope event.number response }
+    ) -> Result<(), RelationFault>
+        ensures is { out relation_reason (λ _. self.new) result ≡ joined_action at self.old event.scope event.number response }
+        ensures kept { IfErr result (λ _. self.new ≡ self.old) }
     {
         if self.given.has(event) {
             return Err(RelationFault::Repeated { at });
         }
-        Ok(Sofar {
-            last: Some(Kind::Action),
-            given: self.given.with(event),
-            tables: self.tables.respond(event, response),
-            ..self
-        })
+        self.given.set(event);
+        self.tables.respond(event, response);
+        self.last = Some(Kind::Action);
+        Ok(())
     }
 
-    /// The tables with a record that was heard.
-    pub(crate) fn join(self, said: Record, at: usize) -> Result<Sofar, RelationFault>
-        requires { Ready self (said_of said) }
-        ensures { out relation_reason (λ s. s) result ≡ joined at self (said_of said.entry) }
+    /// A record that was heard goes into the tables, or is refused and leaves them as they are.
+    pub(crate) fn join(&mut self, said: Record, at: usize) -> Result<(), RelationFault>
+        requires { Ready self.now (said_of said) }
+        ensures is { out relation_reason (λ _. self.new) result ≡ joined at self.old (said_of said.entry) }
+        ensures kept { IfErr result (λ _. self.new ≡ self.old) }
     {
         match said {
-            Record::Header { partitions, plans } => Ok(self.with_header(partitions, plans)),
-            Record::Partition { class, size, name } => {
-                self.with_partition(PartitionRow::new(class, size, Name::of(name.bytes)), at)
+            Record::Header { partitions, plans } => {
+                self.set_header(partitions, plans);
+                Ok(())
             }
-            Record::Plan { frame } => Ok(self.with_tables(
-                Kind::Plan,
-                self.tables.with_plan(frame),
-            )),
+            Record::Partition { class, size, name } => {
+                self.join_partition(PartitionRow::new(class, size, Name::of(name.bytes)), at)
+            }
+            Record::Plan { frame } => {
+                self.tables.add_plan(frame);
+                self.last = Some(Kind::Plan);
+                Ok(())
+            }
             Record::Slot {
                 partition,
                 start,
                 duration,
             } => {
-                self.with_slot(
+                self.join_slot(
                     Slot {
                         partition,
                         start,
@@ -152,7 +168,7 @@ impl Sofar {
                 longest,
                 depth,
             } => {
-                self.with_channel(
+                self.join_channel(
                     Channel {
                         kind,
                         longest,
@@ -168,7 +184,7 @@ impl Sofar {
                 name,
             } => {
                 let channel = (self.tables.channels.count - 1) as u8;
-                self.with_port(
+                self.join_port(
                     Port {
                         partition,
                         channel,
@@ -182,8 +198,8 @@ impl Sofar {
                 number,
                 source,
                 mask,
-            } => self.with_link(number, source, mask, at),
-            Record::Line { line, partition } => self.with_line(line, partition, at),
+            } => self.join_link(number, source, mask, at),
+            Record::Line { line, partition } => self.join_line(line, partition, at),
             Record::Action {
                 scope,
                 event,
@@ -194,7 +210,7 @@ impl Sofar {
                     scope,
                     number: event,
                 };
-                self.with_action(event, Response { action, log }, at)
+                self.join_action(event, Response { action, log }, at)
             }
         }
     }

@@ -37,8 +37,7 @@ impl<'a> Records<'a> {
         }
         let cut = split(self.rest, at)?;
         let said = self.sofar.hear(cut.kind, cut.body, at)?;
-        let sofar = self.sofar.join(said, at)?;
-        self.sofar = sofar;
+        self.sofar.join(said, at)?;
         self.at = at + 4 + cut.body.len();
         self.rest = cut.rest;
         Ok(Some(Shown { at, record: said }))

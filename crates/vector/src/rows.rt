@@ -1,4 +1,4 @@
-// The tables with one more row.
+// One row more in the tables. They are big, so they grow where they stand, and so do the rows that grow.
 ghost use Rattle.std.specs.Prelude.{◌≡◌, ◌+◌, ◌^◌, ◌<◌, ◌≤◌};
 ghost use Rattle.vector.specs.Joins.{respond};
 ghost use Rattle.vector.specs.Rows.{placed, slot_end, end_of, ported, open_plan, open_channel, add_partition, add_plan, add_slot, add_channel, add_port, add_link, add_line};
@@ -26,71 +26,52 @@ impl Plan {
         self.slots.last_or(Slot::none()).end()
     }
 
-    fn with_slot(self, slot: Slot) -> Plan
-        requires { self.slots.count < 16 }
-        ensures { result ≡ placed slot self }
+    fn add_slot(&mut self, slot: Slot)
+        requires { self.now.slots.count < 16 }
+        ensures { self.new ≡ placed slot self.old }
     {
-        Plan {
-            slots: self.slots.with(slot),
-            ..self
-        }
+        self.slots.push(slot);
     }
 }
 
 impl Channel {
-    fn with_port(self) -> Channel
-        requires { self.ports + 1 < 2 ^ 64 }
-        ensures { result ≡ ported self }
+    fn add_port(&mut self)
+        requires { self.now.ports + 1 < 2 ^ 64 }
+        ensures { self.new ≡ ported self.old }
     {
-        Channel {
-            ports: self.ports + 1,
-            ..self
-        }
+        self.ports += 1;
     }
 }
 
 // Each table is a field of its own, so what adds a row to one is one line with the field's name.
 impl Tables {
-    pub(crate) fn with_partition(self, row: PartitionRow) -> Tables
-        requires { self.partitions.count < 8 }
-        ensures { result ≡ add_partition row self }
+    pub(crate) fn add_partition(&mut self, row: PartitionRow)
+        requires { self.now.partitions.count < 8 }
+        ensures { self.new ≡ add_partition row self.old }
     {
-        Tables {
-            partitions: self.partitions.with(row),
-            ..self
-        }
+        self.partitions.push(row);
     }
 
-    pub(crate) fn with_plan(self, frame: u32) -> Tables
-        requires { self.plans.count < 4 }
-        ensures { result ≡ add_plan frame self }
+    pub(crate) fn add_plan(&mut self, frame: u32)
+        requires { self.now.plans.count < 4 }
+        ensures { self.new ≡ add_plan frame self.old }
     {
-        Tables {
-            plans: self.plans.with(Plan::new(frame)),
-            ..self
-        }
+        self.plans.push(Plan::new(frame));
     }
 
     /// The plan that was added last gets one more slot.
-    pub(crate) fn with_slot(self, slot: Slot) -> Tables
-        requires { (1 ≤ self.plans.count) × ((self.plans.count ≤ 4) × ((open_plan self).slots.count < 16)) }
-        ensures { result ≡ add_slot slot self }
+    pub(crate) fn add_slot(&mut self, slot: Slot)
+        requires { (1 ≤ self.now.plans.count) × ((self.now.plans.count ≤ 4) × ((open_plan self.now).slots.count < 16)) }
+        ensures { self.new ≡ add_slot slot self.old }
     {
-        let plan = self.plans.rows[self.plans.count - 1];
-        Tables {
-            plans: self.plans.with_last(plan.with_slot(slot)),
-            ..self
-        }
+        self.plans.rows[self.plans.count - 1].add_slot(slot);
     }
 
-    pub(crate) fn with_channel(self, channel: Channel) -> Tables
-        requires { self.channels.count < 8 }
-        ensures { result ≡ add_channel channel self }
+    pub(crate) fn add_channel(&mut self, channel: Channel)
+        requires { self.now.channels.count < 8 }
+        ensures { self.new ≡ add_channel channel self.old }
     {
-        Tables {
-            channels: self.channels.with(channel),
-            ..self
-        }
+        self.channels.push(channel);
     }
 
     /// The channel that was added last; while there is none, an empty row.
@@ -101,35 +82,30 @@ impl Tables {
     }
 
     /// A port of the channel that was added last.
-    pub(crate) fn with_port(self, port: Port) -> Tables
-        requires { (1 ≤ self.channels.count) × ((self.channels.count ≤ 8) × ((self.ports.count < 32) × ((open_channel self).ports ≤ self.ports.count))) }
-        ensures { result ≡ add_port port self }
+    pub(crate) fn add_port(&mut self, port: Port)
+        requires { (1 ≤ self.now.channels.count) × ((self.now.channels.count ≤ 8) × ((self.now.ports.count < 32) × ((open_channel self.now).ports ≤ self.now.ports.count))) }
+        ensures { self.new ≡ add_port port self.old }
     {
-        Tables {
-            channels: self.channels.with_last(self.open_channel().with_port()),
-            ports: self.ports.with(port),
-            ..self
-        }
+        self.channels.rows[self.channels.count - 1].add_port();
+        self.ports.push(port);
     }
 
-    pub(crate) fn with_link(mut self, number: u8, source: u8, mask: u8) -> Tables
+    pub(crate) fn set_link(&mut self, number: u8, source: u8, mask: u8)
         requires { (number < 8) × (source < 8) }
-        ensures { result ≡ add_link number source mask self }
+        ensures { self.new ≡ add_link number source mask self.old }
     {
         self.partitions.rows[source as usize].links[number as usize] = Some(mask);
-        self
     }
 
-    pub(crate) fn with_line(mut self, line: u8, partition: u8) -> Tables
+    pub(crate) fn set_line(&mut self, line: u8, partition: u8)
         requires { line < 16 }
-        ensures { result ≡ add_line line partition self }
+        ensures { self.new ≡ add_line line partition self.old }
     {
         self.lines[line as usize] = Some(partition);
-        self
     }
 
-    pub(crate) fn respond(mut self, event: Event, response: Response) -> Tables
-        ensures { result ≡ respond event.scope event.number response self }
+    pub(crate) fn respond(&mut self, event: Event, response: Response)
+        ensures { self.new ≡ respond event.scope event.number response self.old }
     {
         let number = event.number as usize;
         match event.scope {
@@ -138,6 +114,5 @@ impl Tables {
             }
             Scope::System => self.system[number - 8] = response,
         }
-        self
     }
 }

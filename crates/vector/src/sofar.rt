@@ -52,14 +52,13 @@ impl Given {
         }
     }
 
-    pub(crate) fn with(mut self, event: Event) -> Given
-        ensures { result ≡ giving event.scope event.number self }
+    pub(crate) fn set(&mut self, event: Event)
+        ensures { self.new ≡ giving event.scope event.number self.old }
     {
         let number = event.number as usize;
         match event.scope {
             Scope::Partition(partition) => self.partitions[partition as usize][number] = true,
             Scope::System => self.system[number - 8] = true,
         }
-        self
     }
 }

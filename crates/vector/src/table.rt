@@ -29,13 +29,12 @@ impl<T: Copy, const N: usize> Table<T, N> {
     }
 
     /// One row more.
-    pub(crate) fn with(mut self, row: T) -> Table<T, N>
-        requires { self.count < N }
-        ensures { result ≡ record { count = self.count + 1; rows = slice_set self.rows self.count row } }
+    pub(crate) fn push(&mut self, row: T)
+        requires { self.now.count < N }
+        ensures { self.new ≡ record { count = self.old.count + 1; rows = slice_set self.old.rows self.old.count row } }
     {
         self.rows[self.count] = row;
         self.count += 1;
-        self
     }
 
     /// The row that was added last; while there is none, the row at 0 as it began, and the blank one where there is no
@@ -47,14 +46,5 @@ impl<T: Copy, const N: usize> Table<T, N> {
             .get(self.count.saturating_sub(1))
             .copied()
             .unwrap_or(blank)
-    }
-
-    /// The row that was added last, replaced.
-    pub(crate) fn with_last(mut self, row: T) -> Table<T, N>
-        requires { (1 ≤ self.count) × (self.count ≤ N) }
-        ensures { result ≡ record { count = self.count; rows = slice_set self.rows (self.count - 1) row } }
-    {
-        self.rows[self.count - 1] = row;
-        self
     }
 }

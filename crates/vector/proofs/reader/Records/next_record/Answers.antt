@@ -18,10 +18,10 @@ overflow_add-self-2 c =
     let o = cut_off r.at r.rest.now (framed_of c.in_ok-cut.cut) (sym c.in_ok-cut.ensures) in
     omega (arith, o.size)
 
-pub invariant_of-self : goal.invariant_of-self
-invariant_of-self c =
+pub invariant_of-self-2 : goal.invariant_of-self-2
+invariant_of-self-2 c =
     let r = c.args.self.now in
     let cut = c.in_ok-cut.cut in
     let o = cut_off r.at r.rest.now (framed_of cut) (sym c.in_ok-cut.ensures) in
-    let w = heard-room r.at r.sofar cut.kind cut.body.now (said_of c.in_ok-said.said) o.suited (sym c.in_ok-said.ensures) c.in_ok-sofar.sofar (r.promised, r.counted, r.ported) (sym c.in_ok-sofar.ensures) in
+    let w = heard-room r.at r.sofar cut.kind cut.body.now (said_of c.in_ok-said.said) o.suited (sym c.in_ok-said.ensures) c.join.new.self (r.promised, r.counted, r.ported) (sym c.in_ok-join.ensures.is) in
     record { promised = w.0; counted = w.1; ported = w.2; small = omega (arith, o.size) }
