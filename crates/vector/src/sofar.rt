@@ -8,14 +8,15 @@ use crate::tables::Tables;
 
 // Two arrays as in the tables: the events of a partition and of the system are numbered apart, and no row has both.
 /// Which events of each partition, and of the system from event 8 on, the vector has given an action.
-#[derive(Clone, Copy)]
+#[derive(Drop)]
 pub(crate) struct Given {
     pub(crate) partitions: [[bool; 8]; 8],
     pub(crate) system: [bool; 4],
 }
 
+// No Copy, so that no step copies the tables unseen.
 /// The last record's kind, the numbers of partitions and plans that the header promised, and the tables.
-#[derive(Clone, Copy)]
+#[derive(Drop)]
 pub(crate) struct Sofar {
     pub(crate) last: Option<Kind>,
     pub(crate) partitions: u8,
