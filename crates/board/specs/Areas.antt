@@ -1,5 +1,5 @@
--- What the three functions of a board do to its areas.
-use Rattle.std.specs.Prelude.{ℕ, Bool, cond, List, [], length, Some, None, Option, nat_lt, slice_index, slice_index_or, slice_set}
+-- What the functions of a board do to its areas.
+use Rattle.std.specs.Prelude.{ℕ, Bool, cond, List, [], length, replicate, Some, None, Option, nat_lt, slice_index, slice_index_or, slice_set}
 
 -- an area; one that is not there is empty
 abbrev pub area : List (List ℕ) → ℕ → List ℕ
@@ -20,3 +20,7 @@ wrote ms i at = cond (inside ms i at) (Some tt) None
 -- the areas with the byte at one place replaced, and nothing else; outside, as they were
 abbrev pub stored : List (List ℕ) → ℕ → ℕ → ℕ → List (List ℕ)
 stored ms i at byte = cond (inside ms i at) (slice_set ms i (slice_set (area ms i) at byte)) ms
+
+-- the areas with one filled with zeros, and nothing else; one that is not there has no bytes to fill
+abbrev pub wiped : List (List ℕ) → ℕ → List (List ℕ)
+wiped ms i = slice_set ms i (replicate (length (area ms i)) 0)

@@ -1,8 +1,8 @@
-//! What a board means to the core: eight areas of bytes, and three ways to reach them.
+//! What a board means to the core: eight areas of bytes, and the ways to reach them.
 #![tactic(auto)]
 
 ghost use Rattle.std.specs.Prelude.{◌≡◌, ℕ, List, length};
-ghost use Rattle.board.specs.Areas.{area, loaded, stored, wrote};
+ghost use Rattle.board.specs.Areas.{area, loaded, stored, wiped, wrote};
 
 /// A memory of eight areas. An area that is not there (8 and up) is empty.
 pub trait Board {
@@ -24,4 +24,8 @@ pub trait Board {
     fn store(&mut self, i: usize, at: usize, byte: u8) -> Option<()>
         ensures answer { result ≡ wrote (areas self.old) i at }
         ensures after { areas self.new ≡ stored (areas self.old) i at byte };
+
+    /// Fills an area with zeros.
+    fn wipe(&mut self, i: usize)
+        ensures { areas self.new ≡ wiped (areas self.old) i };
 }

@@ -8,7 +8,7 @@ use Rattle.board.specs.Areas.{area}
 use Rattle.boards.specs.declared.fence.Fence.{Fence}
 use Rattle.boards.specs.Below.{all_below}
 use Rattle.boards.specs.Places.{LayoutLaws}
-use Rattle.boards.specs.Fences.{nowhere, fence_of, part, parts, within, apart, apart_at, good_fence, sound_fences, fence_place, fence_size}
+use Rattle.boards.specs.Fences.{nowhere, fence_of, part, parts, within, apart, apart_at, good_fence, sound_fences, fence_place, fence_size, fence_stretch}
 use Rattle.boards.proofs.Below.{below_at, neither_before}
 
 -- eight empty fences are sound in any memory
@@ -53,7 +53,7 @@ module _ (fences : List Fence) (n : ℕ) (e : length fences ≡ 8) (s : sound_fe
       let ends : 0 < fence_size fences i → (fence_of fences i).base + fence_size fences i ≤ n = λ h. fence_end i 0 h in
       ap length (area-part memory fences i) ∙ simp (length-take, length-drop) (grind arith)
 
-  pub fences_laid : LayoutLaws n (λ memory. parts memory fences) (fence_size fences) (fence_place fences)
+  pub fences_laid : LayoutLaws n (λ memory. parts memory fences) (fence_size fences) (fence_place fences) (fence_stretch fences)
   fences_laid =
       record {
         eight = λ memory. length-map fences (part memory) ∙ e;
@@ -65,4 +65,7 @@ module _ (fences : List Fence) (n : ℕ) (e : length fences ≡ 8) (s : sound_fe
             ∙ get_or-drop (fence_of fences i).base memory a 0;
         within = λ i a l. let w = fence_end i a l in omega arith;
         apart = bytes_apart;
+        some = λ i a l. omega arith;
+        ends = λ i a l. omega arith;
+        straight = λ i a k l h. omega arith;
       }

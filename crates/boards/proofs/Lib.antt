@@ -1,4 +1,5 @@
 pub mod Below
 pub mod Storing
+pub mod Stretching
 pub mod Fencing
 pub mod Paging

@@ -9,7 +9,7 @@ use Rattle.board.specs.Areas.{area}
 use Rattle.boards.specs.declared.pages.Pages.{Pages}
 use Rattle.boards.specs.Below.{all_below}
 use Rattle.boards.specs.Places.{LayoutLaws}
-use Rattle.boards.specs.Pages.{no_pages, page, paged_size, paged_place, paged_byte, paged_area, paged, eight-paged, entry, used, differs, good_entry, fits, sound_pages}
+use Rattle.boards.specs.Pages.{no_pages, page, paged_size, paged_place, paged_stretch, paged_byte, paged_area, paged, eight-paged, entry, used, differs, good_entry, fits, sound_pages}
 use Rattle.boards.proofs.Below.{below_at, neither_before}
 
 -- eight empty areas are sound in any memory
@@ -101,7 +101,15 @@ module _ (table : List Pages) (n : ℕ) (e : length table ≡ 8) (s : sound_page
       ap length (get_or_past (paged memory table) i [] (omega arith)) ∙ sym (ap (λ (p : Pages). p.size) (get_or_past table i no_pages (omega arith))))
       (cases_lt i 8)
 
-  pub pages_laid : LayoutLaws n (λ memory. paged memory table) (paged_size table) (paged_place table)
+  -- bytes of one page lie in a row
+  straight : (i a k : ℕ) → a < paged_size table i → k < paged_stretch table i a → paged_place table i (a + k) ≡ paged_place table i a + k
+  straight i a k l h =
+      let q : (a + k) / 64 ≡ a / 64 = omega arith in
+      let r : (a + k) % 64 ≡ a % 64 + k = omega arith in
+      let p = ap (page table i) q in
+      omega arith
+
+  pub pages_laid : LayoutLaws n (λ memory. paged memory table) (paged_size table) (paged_place table) (paged_stretch table)
   pages_laid =
       record {
         eight = λ memory. eight-paged memory table;
@@ -112,4 +120,7 @@ module _ (table : List Pages) (n : ℕ) (e : length table ≡ 8) (s : sound_page
             ∙ get_or-map-range_with_len (paged_byte memory table i) 0 (paged_size table i) a a 0 l (omega arith);
         within = place-within;
         apart = bytes_apart;
+        some = λ i a l. omega arith;
+        ends = λ i a l. omega arith;
+        straight = straight;
       }

@@ -5,10 +5,10 @@ use Rattle.std.proofs.lemmas.Bool.{cases_eq, lt-ltb}
 use Rattle.board.specs.Areas.{area}
 use Rattle.boards.specs.Places.{LayoutLaws, LiesAt}
 
-module _ {n : ℕ} {view : List ℕ → List (List ℕ)} {size : ℕ → ℕ} {place : ℕ → ℕ → ℕ} (w : LayoutLaws n view size place)
+module _ {n : ℕ} {view : List ℕ → List (List ℕ)} {size : ℕ → ℕ} {place stretch : ℕ → ℕ → ℕ} (w : LayoutLaws n view size place stretch)
     (memory : List ℕ) (e : length memory ≡ n) (i at : ℕ) where
   -- an area that has a byte is there
-  there : at < size i → i < length (view memory)
+  pub there : at < size i → i < length (view memory)
   there l =
       let past : length (view memory) ≤ i → length (area (view memory) i) ≡ 0 = λ k. ap length (get_or_past (view memory) i [] k) in
       let s = w.long memory e i in

@@ -1,5 +1,5 @@
 -- Eight fences: parts of one memory, apart from one another.
-use Rattle.std.specs.Prelude.{ℕ, ◌+◌, Bool, ◌&&◌, ◌||◌, List, map, take, drop, replicate, if◌then◌else◌, ◌==◌, nat_le, slice_index_or}
+use Rattle.std.specs.Prelude.{ℕ, ◌+◌, ◌-◌, Bool, ◌&&◌, ◌||◌, List, map, take, drop, replicate, if◌then◌else◌, ◌==◌, nat_le, slice_index_or}
 use Rattle.boards.specs.declared.fence.Fence.{Fence}
 use Rattle.boards.specs.Below.{all_below}
 
@@ -50,3 +50,7 @@ fence_place fences i at = (fence_of fences i).base + at
 -- the size of area i
 abbrev pub fence_size : List Fence → ℕ → ℕ
 fence_size fences i = (fence_of fences i).size
+
+-- all bytes of an area lie one after another: from byte `at` on, those that are left
+abbrev pub fence_stretch : List Fence → ℕ → ℕ → ℕ
+fence_stretch fences i at = fence_size fences i - at

@@ -1,5 +1,5 @@
 -- Areas of up to 16 pages of 64 bytes, found through a page table.
-use Rattle.std.specs.Prelude.{◌≡◌, ℕ, ◌+◌, ◌*◌, ◌/◌, ◌%◌, Bool, not, ◌&&◌, ◌||◌, List, map, replicate, length, if◌then◌else◌, ◌==◌, nat_le, nat_lt, slice_index, slice_index_or}
+use Rattle.std.specs.Prelude.{◌≡◌, ℕ, ◌+◌, ◌-◌, ◌*◌, ◌/◌, ◌%◌, min, Bool, not, ◌&&◌, ◌||◌, List, map, replicate, length, if◌then◌else◌, ◌==◌, nat_le, nat_lt, slice_index, slice_index_or}
 use Rattle.std.specs.List.{list_all, range_with_len}
 use Rattle.std.proofs.lemmas.List.FromFn.{length-map-range_with_len}
 use Rattle.boards.specs.declared.pages.Pages.{Pages}
@@ -24,6 +24,10 @@ paged_size table i = (pages_at table i).size
 -- where byte `at` of area i lies
 abbrev pub paged_place : List Pages → ℕ → ℕ → ℕ
 paged_place table i at = 64 * page table i (at / 64) + at % 64
+
+-- the bytes of a page lie one after another: from byte `at` on, those up to the page's end or the area's, which is nearer
+abbrev pub paged_stretch : List Pages → ℕ → ℕ → ℕ
+paged_stretch table i at = min (64 - at % 64) (paged_size table i - at)
 
 -- byte `at` of area i
 abbrev pub paged_byte : List ℕ → List Pages → ℕ → ℕ → ℕ

@@ -1,6 +1,6 @@
 //! A board whose areas are fenced parts of a memory of its own.
 ghost use Rattle.std.specs.Prelude.{◌≡◌, true, [], length, replicate, if◌then◌else◌};
-ghost use Rattle.boards.specs.Fences.{parts, sound_fences, taken_fences, fence_size, fence_place};
+ghost use Rattle.boards.specs.Fences.{parts, sound_fences, taken_fences, fence_size, fence_place, fence_stretch};
 ghost use Rattle.boards.specs.Places.{LayoutLaws};
 
 use crate::fence::Fence;
@@ -14,7 +14,7 @@ pub struct Fences<const N: usize> {
     fences: [Fence; 8],
     ghost eight: { length fences ≡ 8 },
     ghost sound: { sound_fences fences N ≡ true },
-    ghost laws: { LayoutLaws N (λ memory. parts memory fences) (fence_size fences) (fence_place fences) },
+    ghost laws: { LayoutLaws N (λ memory. parts memory fences) (fence_size fences) (fence_place fences) (fence_stretch fences) },
 }
 
 impl<const N: usize> Fences<N> {
@@ -38,6 +38,8 @@ impl<const N: usize> Layout<N> for Fences<N> {
 
     ghost places = { λ layout. fence_place layout.fences };
 
+    ghost stretches = { λ layout. fence_stretch layout.fences };
+
     ghost laws = { λ layout. layout.laws };
 
     fn size(&self, i: usize) -> usize {
@@ -46,6 +48,10 @@ impl<const N: usize> Layout<N> for Fences<N> {
 
     fn place(&self, i: usize, at: usize) -> usize {
         self.fences[i].base + at
+    }
+
+    fn stretch(&self, i: usize, at: usize) -> usize {
+        self.fences[i].size - at
     }
 }
 

@@ -3,6 +3,7 @@ ghost use Rattle.std.specs.Prelude.{◌≡◌, length};
 ghost use Rattle.boards.specs.Places.{found, Places};
 
 use crate::layout::Layout;
+use crate::stretches::wipe;
 use board::Board;
 
 /// A memory of N bytes, and where its eight areas lie.
@@ -54,5 +55,9 @@ impl<L: Layout<N>, const N: usize> Board for Laid<L, N> {
         let p = self.find(i, at)?;
         self.memory[p] = byte;
         Some(())
+    }
+
+    fn wipe(&mut self, i: usize) {
+        wipe(&self.layout, &mut self.memory, i);
     }
 }

@@ -13,8 +13,11 @@ pub trait Layout<const N: usize> {
     /// Where each byte of each area lies.
     ghost places: { Self → ℕ → ℕ → ℕ };
 
+    /// How many bytes of an area, from one on, lie one after another.
+    ghost stretches: { Self → ℕ → ℕ → ℕ };
+
     /// Each byte lies within the memory, and no two at one place.
-    ghost laws: { (layout : Self) → LayoutLaws N (view layout) (sizes layout) (places layout) };
+    ghost laws: { (layout : Self) → LayoutLaws N (view layout) (sizes layout) (places layout) (stretches layout) };
 
     /// The size of an area; one that is not there has no bytes.
     fn size(&self, i: usize) -> usize
@@ -24,4 +27,9 @@ pub trait Layout<const N: usize> {
     fn place(&self, i: usize, at: usize) -> usize
         requires { at < sizes self.now i }
         ensures { result ≡ places self.now i at };
+
+    /// How many bytes of an area, from this one on, lie one after another, so that they can be reached at a stroke.
+    fn stretch(&self, i: usize, at: usize) -> usize
+        requires { at < sizes self.now i }
+        ensures { result ≡ stretches self.now i at };
 }

@@ -8,6 +8,7 @@ mod laid;
 mod layout;
 mod paged;
 mod pages;
+mod stretches;
 mod table;
 
 pub use fence::Fence;

@@ -1,6 +1,6 @@
 //! A board whose areas are made of pages of a memory of its own.
 ghost use Rattle.std.specs.Prelude.{◌≡◌, true, [], length, replicate, if◌then◌else◌};
-ghost use Rattle.boards.specs.Pages.{paged, sound_pages, taken_pages, paged_place, paged_size};
+ghost use Rattle.boards.specs.Pages.{paged, sound_pages, taken_pages, paged_place, paged_size, paged_stretch};
 ghost use Rattle.boards.specs.Places.{LayoutLaws};
 
 use crate::laid::Laid;
@@ -14,7 +14,7 @@ pub struct PageTable<const N: usize> {
     areas: [Pages; 8],
     ghost eight: { length areas ≡ 8 },
     ghost sound: { sound_pages areas N ≡ true },
-    ghost laws: { LayoutLaws N (λ memory. paged memory areas) (paged_size areas) (paged_place areas) },
+    ghost laws: { LayoutLaws N (λ memory. paged memory areas) (paged_size areas) (paged_place areas) (paged_stretch areas) },
 }
 
 impl<const N: usize> PageTable<N> {
@@ -40,6 +40,8 @@ impl<const N: usize> Layout<N> for PageTable<N> {
 
     ghost places = { λ layout. paged_place layout.areas };
 
+    ghost stretches = { λ layout. paged_stretch layout.areas };
+
     ghost laws = { λ layout. layout.laws };
 
     fn size(&self, i: usize) -> usize {
@@ -48,6 +50,10 @@ impl<const N: usize> Layout<N> for PageTable<N> {
 
     fn place(&self, i: usize, at: usize) -> usize {
         64 * usize::from(self.areas[i].numbers[at / 64]) + at % 64
+    }
+
+    fn stretch(&self, i: usize, at: usize) -> usize {
+        (64 - at % 64).min(self.areas[i].size - at)
     }
 }
 

@@ -1,12 +1,17 @@
 -- Bytes copied one after another, from an area and into it.
-use Rattle.std.proofs.Common.{◌≡◌, ℕ, ◌+◌, ◌-◌, ◌<◌, ◌≤◌, List, [], ◌∷◌, ◌++◌, length, get_or, take, drop, set, sym, ap, ◌∙◌, ⊎_elim, arith}
+use Rattle.std.proofs.Common.{◌≡◌, ℕ, zero, suc, ◌+◌, ◌-◌, ◌<◌, ◌≤◌, List, [], ◌∷◌, ◌++◌, length, get_or, take, drop, set, sym, ap, ◌∙◌, ⊎_elim, arith}
 use lib.Seq.{set-append_seam}
 use Rattle.std.proofs.lemmas.List.{take_more, take_all, length-take, length-drop, length-take-le, drop_more, append_assoc, length-append, set-append_right, set-set, get_or-set_same}
 use Rattle.std.proofs.lemmas.Bool.{cond-true, lt-ltb, cases_lt}
 use Rattle.board.specs.Areas.{stored}
 use Rattle.machine.specs.State.{area}
 use Rattle.machine.specs.Ports.{patched}
-use Rattle.kernel.proofs.Wiping.{there}
+
+-- an area with a byte in it is there
+there : (ms : List (List ℕ)) (i n : ℕ) → n < length (area ms i) → i < length ms
+there [] i n h = absurd (omega arith)
+there (m ∷ ms) zero n h = omega arith
+there (m ∷ ms) (suc i) n h = let z = there ms i n h in omega arith
 
 -- one byte more has been patched in
 patched_more : (a bs : List ℕ) (o k : ℕ) → k < length bs → o + k < length a → set (patched a o (take k bs)) (o + k) (get_or bs k 0) ≡ patched a o (take (k + 1) bs)

@@ -1,6 +1,5 @@
 pub mod Copying
 pub mod Going
-pub mod Wiping
 pub mod Gapping
 pub mod Keeping
 pub mod Grounding

@@ -1,4 +1,4 @@
-// Whole areas of a board. A board is asked by numbers of areas and bytes, so the loops of `wipe` and `wipe_all` are over ranges.
+// Whole areas of a board. A board is asked by the number of an area, so the loop of `wipe_all` is over a range.
 ghost use Rattle.std.specs.Prelude.{◌≡◌, ◌≤◌};
 ghost use Rattle.machine.specs.State.{wiped, wiped_all};
 ghost use Rattle.machine.specs.Step.{fits};
@@ -10,9 +10,7 @@ use vector::tables::Tables;
 pub(crate) fn wipe<B: Board>(board: &mut B, i: usize)
     ensures { B.areas board.new ≡ wiped i (B.areas board.old) }
 {
-    for at in 0..board.size(i) {
-        let _ = board.store(i, at, 0);
-    }
+    board.wipe(i);
 }
 
 /// Fills the first n areas with zeros.
