@@ -1,8 +1,9 @@
 -- Bytes that come to lie in an area, one stretch of the memory after another.
-use Rattle.std.proofs.Common.{◌≡◌, ℕ, zero, suc, ◌+◌, ◌-◌, ◌<◌, ◌≤◌, List, [], ◌++◌, length, get_or, take, drop, set, replicate, refl, sym, ap, ◌∙◌, arith}
+use Rattle.std.proofs.Common.{◌≡◌, ℕ, zero, suc, ◌+◌, ◌-◌, ◌<◌, ◌≤◌, List, [], ◌++◌, length, get_or, take, drop, set, replicate, take-add, refl, sym, ap, ◌∙◌, arith}
 use lib.Seq.{paste, paste-zero, paste-suc, length-paste}
-use Rattle.std.proofs.lemmas.List.{get_or-set_same, set-set, set-get_or, get_or-take, get_or-drop, length-take, length-drop, length-replicate, take-replicate, drop-replicate, append-nil, drop_all, take_all}
-use Rattle.std.proofs.lemmas.Slice.{put_mid-paste}
+use Rattle.std.proofs.lemmas.List.{get_or-set_same, set-set, set-get_or, get_or-take, get_or-drop, length-take, length-drop, length-replicate, take-replicate, drop-replicate, append-nil, drop_all, take_all, drop-drop, ext_get_or}
+use Rattle.std.proofs.lemmas.List.Edits.{paste_all}
+use Rattle.std.proofs.lemmas.Slice.{put_mid-paste, take-put_mid}
 use borrow.Rule.Slice.PartMut.{put_mid}
 use Rattle.board.specs.Areas.{area, wiped}
 use Rattle.boards.specs.Places.{LayoutLaws}
@@ -88,3 +89,36 @@ all_zeros ms ns i n d r q e =
     ∙ ap (λ x. zeros n ++ x) (drop_all (0 + n) (area ms i) (omega arith))
     ∙ append-nil (zeros n)
     ∙ ap zeros e)
+
+-- an area that all of the bytes have been laid in
+pub all_laid : (ms ns : List (List ℕ)) (i o d : ℕ) (s : List ℕ) → ns ≡ laid ms i o s d → d ≡ length s →
+    ns ≡ set ms i (take o (area ms i) ++ (s ++ drop (o + length s) (area ms i)))
+all_laid ms ns i o d s r q = r ∙ ap (laid ms i o s) q ∙ ap (set ms i) (paste_all (area ms i) o s (length s) refl)
+
+-- a stretch holds the bytes of its area
+pub stretch_is : {n : ℕ} {view : List ℕ → List (List ℕ)} {size : ℕ → ℕ} {place stretch : ℕ → ℕ → ℕ} (w : LayoutLaws n view size place stretch)
+    (memory : List ℕ) → length memory ≡ n → (i a k : ℕ) → a < size i → k ≤ stretch i a → take k (drop (place i a) memory) ≡ take k (drop a (area (view memory) i))
+stretch_is {n} {view} {size} {place} {stretch} w memory e i a k h q =
+    let long = w.long memory e i in
+    let ends = w.ends i a h in
+    let fits = room w i a h in
+    let here : length (take k (drop (place i a) memory)) ≡ k = simp (length-take, length-drop) (omega arith) in
+    let there : length (take k (drop a (area (view memory) i))) ≡ k = simp (length-take, length-drop) (omega arith) in
+    ext_get_or 0 (take k (drop (place i a) memory)) (take k (drop a (area (view memory) i))) (here ∙ sym there)
+    (λ j u.
+    let b : j < k = omega arith in
+    get_or-take k (drop (place i a) memory) j 0 b
+    ∙ get_or-drop (place i a) memory j 0
+    ∙ ap (λ x. get_or memory x 0) (sym (w.straight i a j h (omega arith)))
+    ∙ sym (w.byte memory i (a + j) (omega arith))
+    ∙ sym (get_or-drop a (area (view memory) i) j 0)
+    ∙ sym (get_or-take k (drop a (area (view memory) i)) j 0 b))
+
+-- a buffer that has the first d bytes from o on, with the next k put behind them
+pub read_more : (a into bs : List ℕ) (o d k r x : ℕ) → take d into ≡ take d (drop o a) → bs ≡ take k (drop x a) → length bs ≡ k → x ≡ o + d → d ≤ length into →
+    take (d + k) (put_mid d r into bs) ≡ take (d + k) (drop o a)
+read_more a into bs o d k r x e f l q h =
+    take-put_mid d r into bs (d + k) (omega arith) h
+    ∙ ap (λ y. y ++ bs) e
+    ∙ ap (λ y. take d (drop o a) ++ y) (f ∙ ap (λ y. take k (drop y a)) q ∙ ap (take k) (sym (drop-drop d o a)))
+    ∙ sym (take-add d k (drop o a))

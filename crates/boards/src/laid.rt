@@ -1,9 +1,10 @@
 //! A board that owns its memory, in any layout.
-ghost use Rattle.std.specs.Prelude.{◌≡◌, length};
+ghost use Rattle.std.specs.Prelude.{◌≡◌, ◌+◌, ◌^◌, ◌<◌, ◌≤◌, true, length};
+ghost use Rattle.board.specs.Areas.{holds};
 ghost use Rattle.boards.specs.Places.{found, Places};
 
 use crate::layout::Layout;
-use crate::stretches::wipe;
+use crate::stretches;
 use board::Board;
 
 /// A memory of N bytes, and where its eight areas lie.
@@ -35,6 +36,16 @@ impl<L: Layout<N>, const N: usize> Laid<L, N> {
             None
         }
     }
+
+    // Whether n bytes from a place on lie in an area; the test goes by a difference, since a sum may be more than a number holds.
+    fn has(&self, i: usize, at: usize, n: usize) -> bool
+        ensures is { result ≡ holds (L.view self.now.layout self.now.memory) i at n }
+        ensures lies { result ≡ true → at + n ≤ L.sizes self.now.layout i }
+        ensures fits { result ≡ true → at + n < 2 ^ 64 }
+    {
+        let size = self.layout.size(i);
+        at <= size && n <= size - at
+    }
 }
 
 impl<L: Layout<N>, const N: usize> Board for Laid<L, N> {
@@ -58,6 +69,22 @@ impl<L: Layout<N>, const N: usize> Board for Laid<L, N> {
     }
 
     fn wipe(&mut self, i: usize) {
-        wipe(&self.layout, &mut self.memory, i);
+        stretches::wipe(&self.layout, &mut self.memory, i);
+    }
+
+    fn load_range(&self, i: usize, at: usize, into: &mut [u8]) -> Option<()> {
+        if !self.has(i, at, into.len()) {
+            return None;
+        }
+        stretches::load(&self.layout, &self.memory, i, at, into);
+        Some(())
+    }
+
+    fn store_range(&mut self, i: usize, at: usize, bytes: &[u8]) -> Option<()> {
+        if !self.has(i, at, bytes.len()) {
+            return None;
+        }
+        stretches::store(&self.layout, &mut self.memory, i, at, bytes);
+        Some(())
     }
 }

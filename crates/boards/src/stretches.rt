@@ -1,6 +1,6 @@
 // Ranges of an area at a stroke: the stretches of the memory that they lie in, one after another.
-ghost use Rattle.std.specs.Prelude.{◌≡◌, length};
-ghost use Rattle.board.specs.Areas.{wiped};
+ghost use Rattle.std.specs.Prelude.{◌≡◌, ◌+◌, ◌^◌, ◌<◌, ◌≤◌, ◌++◌, length, take, drop, slice_set};
+ghost use Rattle.board.specs.Areas.{area, wiped};
 
 use crate::layout::Layout;
 
@@ -16,5 +16,51 @@ pub(crate) fn wipe<L: Layout<N>, const N: usize>(layout: &L, memory: &mut [u8], 
         let n = layout.stretch(i, at);
         memory[p..p + n].fill(0);
         at += n;
+    }
+}
+
+/// Fills a buffer from an area.
+pub(crate) fn load<L: Layout<N>, const N: usize>(
+    layout: &L,
+    memory: &[u8],
+    i: usize,
+    at: usize,
+    into: &mut [u8],
+)
+    requires whole { length memory.now ≡ N }
+    requires fits { at + length into.old < 2 ^ 64 }
+    requires inside { at + length into.old ≤ L.sizes layout.now i }
+    ensures { into.new ≡ take (length into.old) (drop at (area (L.view layout.now memory.now) i)) }
+{
+    let len = into.len();
+    let mut done = 0;
+    while done < len {
+        let p = layout.place(i, at + done);
+        let n = layout.stretch(i, at + done).min(len - done);
+        into[done..done + n].copy_from_slice(&memory[p..p + n]);
+        done += n;
+    }
+}
+
+/// Lays bytes in an area.
+pub(crate) fn store<L: Layout<N>, const N: usize>(
+    layout: &L,
+    memory: &mut [u8],
+    i: usize,
+    at: usize,
+    bytes: &[u8],
+)
+    requires whole { length memory.old ≡ N }
+    requires fits { at + length bytes.now < 2 ^ 64 }
+    requires inside { at + length bytes.now ≤ L.sizes layout.now i }
+    ensures { L.view layout.now memory.new ≡ slice_set (L.view layout.now memory.old) i (take at (area (L.view layout.now memory.old) i) ++ (bytes.now ++ drop (at + length bytes.now) (area (L.view layout.now memory.old) i))) }
+{
+    let len = bytes.len();
+    let mut done = 0;
+    while done < len {
+        let p = layout.place(i, at + done);
+        let n = layout.stretch(i, at + done).min(len - done);
+        memory[p..p + n].copy_from_slice(&bytes[done..done + n]);
+        done += n;
     }
 }

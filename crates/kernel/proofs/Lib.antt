@@ -1,4 +1,3 @@
-pub mod Copying
 pub mod Going
 pub mod Gapping
 pub mod Keeping

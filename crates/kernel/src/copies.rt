@@ -1,6 +1,6 @@
 // Bytes from an area, and back into it. A range is a board, an area's number, an offset and a length, and that it lies in the area
 // is a fact of the board's bytes: a struct that keeps the fact would hold the loan of the board, once for reading and once for writing.
-ghost use Rattle.std.specs.Prelude.{◌≡◌, ℕ, ◌+◌, ◌^◌, ◌<◌, ◌≤◌, length, slice_set};
+ghost use Rattle.std.specs.Prelude.{◌≡◌, ℕ, ◌+◌, ◌≤◌, length, slice_set};
 ghost use Rattle.vector.specs.Names.{padded};
 ghost use Rattle.machine.specs.Letters.{letter_of};
 ghost use Rattle.machine.specs.State.{area};
@@ -20,16 +20,10 @@ pub(crate) fn is_ranged<B: Board>(board: &B, i: usize, at: u32, n: u32) -> bool
 
 /// Fills a buffer from an area.
 fn load_into<B: Board>(board: &B, i: usize, at: usize, into: &mut [u8])
-    requires fits { at + length into.old < 2 ^ 64 }
     requires inside { at + length into.old ≤ length (area (B.areas board.now) i) }
     ensures { into.new ≡ part (area (B.areas board.now) i) at (length into.old) }
 {
-    for (k, place) in into.iter_mut().enumerate() {
-        let Some(byte) = board.load(i, at + k) else {
-            unreachable()
-        };
-        *place = byte;
-    }
+    let _ = board.load_range(i, at, into);
 }
 
 /// The message of n bytes in a range.
@@ -66,7 +60,5 @@ pub(crate) fn store_message<B: Board>(m: &Message, board: &mut B, i: usize, at: 
     requires inside { at + length (letter_of m.now).bytes ≤ length (area (B.areas board.old) i) }
     ensures { B.areas board.new ≡ slice_set (B.areas board.old) i (patched (area (B.areas board.old) i) at (letter_of m.now).bytes) }
 {
-    for (k, byte) in m.bytes[..m.size()].iter().enumerate() {
-        let _ = board.store(i, at as usize + k, *byte);
-    }
+    let _ = board.store_range(i, at as usize, &m.bytes[..m.size()]);
 }
