@@ -16,7 +16,7 @@ pub trait Layout<const N: usize> {
     /// How many bytes of an area, from one on, lie one after another.
     ghost stretches: { Self → ℕ → ℕ → ℕ };
 
-    /// Each byte lies within the memory, and no two at one place.
+    /// Each byte lies within the memory, no two at one place, and those of a stretch one after another.
     ghost laws: { (layout : Self) → LayoutLaws N (view layout) (sizes layout) (places layout) (stretches layout) };
 
     /// The size of an area; one that is not there has no bytes.
