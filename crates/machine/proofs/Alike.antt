@@ -10,7 +10,7 @@ use Rattle.machine.specs.Letters.{Letter}
 use Rattle.machine.specs.Partitions.{nobody}
 use Rattle.machine.specs.Questions.{is_system}
 use Rattle.machine.specs.State.{Core, Effect, keeps, writes, clears, clears_all, Out, guard, with_clock, with_parts, with_chan, with_log, with_halted, modify}
-use Rattle.machine.proofs.Agree.{Agree, agree_refl, agree_sym, agree_trans, agree_set, agree_put}
+use Rattle.machine.proofs.Agree.{Agree, agree_refl, agree_sym, agree_trans, agree_set, agree_out}
 
 pub record Alike (M C : ℕ → Bool) (x y : Core) : Type 0 where
   pub clock : x.clock ≡ y.clock
@@ -83,27 +83,18 @@ module _ (M C : ℕ → Bool) where
         clock = r.clock;
         halted = r.halted;
         parts = r.parts;
-        chans = agree_trans C [] r.chans (agree_put C [] y.chans c ms (λ h. absurd (both_ways (C c) o h)));
+        chans = agree_trans C [] r.chans (agree_out C [] y.chans c ms o);
       }
 
   pub parts_out : {x y : Core} {ps : List Partition} → Alike M C x y → Agree M nobody y.parts ps → Alike M C x (with_parts y ps)
   parts_out r e = record { clock = r.clock; halted = r.halted; parts = agree_trans M nobody r.parts e; chans = r.chans }
 
-  pub log-out : {x y : Core} → Alike M C x y → (e : List Entry) → Alike M C x (with_log y e)
-  log-out r e = record { clock = r.clock; halted = r.halted; parts = r.parts; chans = r.chans }
-
   pub agree_modify : {ps rs : List Partition} → Agree M nobody ps rs → (i : ℕ) (f : Partition → Partition) →
       Agree M nobody (modify ps i f) (modify rs i f)
   agree_modify {ps} {rs} r i f = agree_set M nobody r i (f (get_or ps i nobody)) (f (get_or rs i nobody)) (λ h. ap f (r.at i h))
 
-  pub modify-out : (ps : List Partition) (i : ℕ) (f : Partition → Partition) → M i ≡ false → Agree M nobody ps (modify ps i f)
-  modify-out ps i f o = agree_put M nobody ps i (f (get_or ps i nobody)) (λ h. absurd (both_ways (M i) o h))
-
   pub agree_place : {ps rs : List Partition} → Agree M nobody ps rs → (i : ℕ) (p : Partition) → Agree M nobody (set ps i p) (set rs i p)
   agree_place r i p = agree_set M nobody r i p p (λ _. refl)
-
-  pub place_out : (ps : List Partition) (i : ℕ) (p : Partition) → M i ≡ false → Agree M nobody ps (set ps i p)
-  place_out ps i p o = agree_put M nobody ps i p (λ h. absurd (both_ways (M i) o h))
 
   -- an outsider's event: a guard, nothing done, the own area written, an area cleared
   pub quiet_guard : (x : Core) (b : Bool) {u v : Out} →
@@ -155,4 +146,4 @@ module _ (k : Tables) (M C : ℕ → Bool) (q : ℕ) where
 
 pub ruleset within = (matched_guard, matched_same, alike_parts, alike_chan, alike_log, alike_halted, alike_clock, agree_modify, agree_place)
 
-pub ruleset without = (quiet_guard, quiet_core, quiet_writes, quiet_clears, parts_out, chan_out, log-out, modify-out, place_out, alike_refl)
+pub ruleset without = (quiet_guard, quiet_core, quiet_writes, quiet_clears, parts_out, chan_out, agree_out, alike_refl)

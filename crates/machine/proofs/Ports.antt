@@ -7,13 +7,14 @@ use Rattle.vector.specs.declared.tables.ChannelKind.{ChannelKind}
 use Rattle.vector.specs.declared.tables.ChannelKind.TheVariants.{Sampling, Queuing}
 use Rattle.machine.specs.declared.clock.Clock.{Clock}
 use Rattle.machine.specs.declared.partition.Partition.{Partition}
+use Rattle.machine.specs.declared.answer.Refusal.TheVariants.{InvalidParam}
 use Rattle.machine.specs.Answers.{reply}
 use Rattle.machine.specs.Letters.{Letter}
 use Rattle.machine.specs.Partitions.{nobody, is_open, signalled}
 use Rattle.machine.specs.Questions.{channel_of, channel, same_kind, owns, hears}
-use Rattle.machine.specs.State.{Core, Out, keeps}
+use Rattle.machine.specs.State.{Core, Out, keeps, guard, refused}
 use Rattle.machine.specs.Management.{arg}
-use Rattle.machine.specs.Ports.{part, message_bit, sought, create_at, create, usable, queue, alert, alerted, sendable, letter, posted, sending, write_sampling_message, send_queuing_message, receiving, ranged, holds, sampled, read_sampling_message, taken, receive_queuing_message, get_queuing_status}
+use Rattle.machine.specs.Ports.{part, message_bit, sought, create_at, create, usable, queue, alert, alerted, sendable, letter, posted, write_sampling_message, send_queuing_message, receiving, ranged, holds, sampled, read_sampling_message, taken, receive_queuing_message, get_queuing_status}
 use Rattle.machine.specs.Circle.{port_owner, is_source_port}
 use Rattle.machine.proofs.Agree.{Agree, agree_refl, agree_trans, agree_put}
 use Rattle.machine.proofs.Alike.{Alike, Matched, Quiet, alike_refl, alike_parts, alike_chan, chan_out, parts_out, matched_guard, matched_same, matched_told, quiet_guard, quiet_core, agree_modify, within, without}
@@ -44,35 +45,26 @@ module _ (k : Tables) (M C : ℕ → Bool) (q : ℕ) where
   held : (t : ChannelKind) (i : ℕ) (x : Core) (b : Bool) → (usable k x q t i && b) ≡ true → Owned k q t i
   held t i x b e = owned k q t i (and_parts (owns k q t i) _ (and_parts (usable k x q t i) b e).0).0
 
-  sending_matched : (t : ChannelKind) (x y : Core) (a g : List ℕ) (u v : Out) → M q ≡ true → Alike M C x y →
-      (Owned k q t (arg g 0) → is_source_port k (arg g 0) ≡ true → Matched k M C q u v) →
-      Matched k M C q (sending t k x a q g u) (sending t k y a q g v)
-  sending_matched t x y a g u v m r f =
-      matched_guard k M C q (usable k x q t (arg g 0) && sendable k a g) _ (usable_alike t (arg g 0) _ m x y r)
-      (λ e. matched_guard k M C q (is_source_port k (arg g 0)) _ refl (f (held t (arg g 0) x _ e)) (λ _. matched_same k M C q keeps _ r))
+  -- a call that moves a message: a test b of its range beside the port's, and what a source port gives and what another
+  abbrev moving : ChannelKind → Bool → Core → ℕ → Out → Out → Out
+  moving t b x i u v = guard (usable k x q t i && b) (guard (is_source_port k i) u v) (refused x InvalidParam)
+
+  moving_matched : (t : ChannelKind) (b : Bool) (x y : Core) (i : ℕ) (u u' v v' : Out) → M q ≡ true → Alike M C x y →
+      (Owned k q t i → is_source_port k i ≡ true → Matched k M C q u u') →
+      (Owned k q t i → is_source_port k i ≡ false → Matched k M C q v v') →
+      Matched k M C q (moving t b x i u v) (moving t b y i u' v')
+  moving_matched t b x y i u u' v v' m r f g =
+      matched_guard k M C q (usable k x q t i && b) _ (usable_alike t i b m x y r)
+      (λ e. let h = held t i x b e in matched_guard k M C q (is_source_port k i) _ refl (f h) (g h))
       (λ _. matched_same k M C q keeps _ r)
 
-  sending_quiet : (t : ChannelKind) (x : Core) (a g : List ℕ) (u : Out) →
-      (Owned k q t (arg g 0) → is_source_port k (arg g 0) ≡ true → Quiet M C x u) → Quiet M C x (sending t k x a q g u)
-  sending_quiet t x a g u f =
-      quiet_guard M C x (usable k x q t (arg g 0) && sendable k a g)
-      (λ e. quiet_guard M C x (is_source_port k (arg g 0)) (f (held t (arg g 0) x _ e)) (λ _. search without))
-      (λ _. search without)
-
-  receiving_matched : (t : ChannelKind) (x y : Core) (a g : List ℕ) (u v : Out) → M q ≡ true → Alike M C x y →
-      (Owned k q t (arg g 0) → is_source_port k (arg g 0) ≡ false → Matched k M C q u v) →
-      Matched k M C q (receiving t k x a q g u) (receiving t k y a q g v)
-  receiving_matched t x y a g u v m r f =
-      matched_guard k M C q (usable k x q t (arg g 0) && ranged a (arg g 1) (arg g 2)) _ (usable_alike t (arg g 0) _ m x y r)
-      (λ e. matched_guard k M C q (is_source_port k (arg g 0)) _ refl (λ _. matched_same k M C q keeps _ r) (f (held t (arg g 0) x _ e)))
-      (λ _. matched_same k M C q keeps _ r)
-
-  receiving_quiet : (t : ChannelKind) (x : Core) (a g : List ℕ) (u : Out) →
-      (Owned k q t (arg g 0) → is_source_port k (arg g 0) ≡ false → Quiet M C x u) → Quiet M C x (receiving t k x a q g u)
-  receiving_quiet t x a g u f =
-      quiet_guard M C x (usable k x q t (arg g 0) && ranged a (arg g 1) (arg g 2))
-      (λ e. quiet_guard M C x (is_source_port k (arg g 0)) (λ _. search without) (f (held t (arg g 0) x _ e)))
-      (λ _. search without)
+  moving_quiet : (t : ChannelKind) (b : Bool) (x : Core) (i : ℕ) (u v : Out) →
+      (Owned k q t i → is_source_port k i ≡ true → Quiet M C x u) →
+      (Owned k q t i → is_source_port k i ≡ false → Quiet M C x v) → Quiet M C x (moving t b x i u v)
+  moving_quiet t b x i u v f g =
+      quiet_guard M C x (usable k x q t i && b)
+      (λ e. let h = held t i x b e in quiet_guard M C x (is_source_port k i) (f h) (g h))
+      (λ _. quiet_core M C x _ (alike_refl M C x))
 
   create_at_matched : (o : Option ℕ) (t : ChannelKind) (x y : Core) (g : List ℕ) → M q ≡ true → Alike M C x y →
       Matched k M C q (create_at o t k x q g) (create_at o t k y q g)
@@ -164,29 +156,34 @@ module _ (k : Tables) (M C : ℕ → Bool) (w : Sealed k M C) where
   write_sampling_message_respects =
       record {
         inside = λ q m x y a g r.
-            sending_matched k M C q Sampling x y a g _ _ m r
+            moving_matched k M C q Sampling (sendable k a g) x y (arg g 0) _ _ _ _ m r
             (λ h s. matched_same k M C q keeps _
-            (posted_alike (arg g 0) x y r (ap (λ l. l ∷ []) (letter_alike x y a g r))));
+            (posted_alike (arg g 0) x y r (ap (λ l. l ∷ []) (letter_alike x y a g r))))
+            (λ h d. matched_same k M C q keeps _ r);
         outside = λ q o h x a g.
-            sending_quiet k M C q Sampling x a g _ (λ h s. quiet_core M C x _ (posted-out (arg g 0) x _ (mute q (arg g 0) Sampling o h s)));
+            moving_quiet k M C q Sampling (sendable k a g) x (arg g 0) _ _
+            (λ h s. quiet_core M C x _ (posted-out (arg g 0) x _ (mute q (arg g 0) Sampling o h s)))
+            (λ h d. quiet_core M C x _ (alike_refl M C x));
       }
 
   pub send_queuing_message_respects : Respects k M C send_queuing_message
   send_queuing_message_respects =
       record {
         inside = λ q m x y a g r.
-            sending_matched k M C q Queuing x y a g _ _ m r
+            moving_matched k M C q Queuing (sendable k a g) x y (arg g 0) _ _ _ _ m r
             (λ h s.
             let c = r.chans.at (channel_of k (arg g 0)) (sent_seen q (arg g 0) m h s) in
             matched_guard k M C q _ _ (ap (λ (ms : List Letter). ltb (length ms) (channel k (arg g 0)).depth) c)
             (λ _. matched_same k M C q keeps _
             (posted_alike (arg g 0) x y r (ap₂ (λ (ms : List Letter) l. ms ++ (l ∷ [])) c (letter_alike x y a g r))))
-            (λ _. matched_same k M C q keeps _ r));
+            (λ _. matched_same k M C q keeps _ r))
+            (λ h d. matched_same k M C q keeps _ r);
         outside = λ q o h x a g.
-            sending_quiet k M C q Queuing x a g _
+            moving_quiet k M C q Queuing (sendable k a g) x (arg g 0) _ _
             (λ h s. quiet_guard M C x (ltb (length (queue k x (arg g 0))) (channel k (arg g 0)).depth)
             (λ _. quiet_core M C x _ (posted-out (arg g 0) x _ (mute q (arg g 0) Queuing o h s)))
-            (λ _. quiet_core M C x _ (alike_refl M C x)));
+            (λ _. quiet_core M C x _ (alike_refl M C x)))
+            (λ h d. quiet_core M C x _ (alike_refl M C x));
       }
 
   -- a call that receives by f: what it does depends on the channel alone, which a member that reads sees
@@ -199,12 +196,16 @@ module _ (k : Tables) (M C : ℕ → Bool) (w : Sealed k M C) where
   receipt_respects t f i o =
       record {
         inside = λ q m x y a g r.
-            receiving_matched k M C q t x y a g _ _ m r
+            moving_matched k M C q t (ranged a (arg g 1) (arg g 2)) x y (arg g 0) _ _ _ _ m r
+            (λ h s. matched_same k M C q keeps _ r)
             (λ h d.
             let c = r.chans.at (channel_of k (arg g 0)) (read-seen q (arg g 0) t m h d) in
             subst (λ ms. Matched k M C q (f k x a g (first (queue k x (arg g 0)))) (f k y a g (first ms))) c
             (i q (first (queue k x (arg g 0))) x y a g r c));
-        outside = λ q n h x a g. receiving_quiet k M C q t x a g _ (o q (first (queue k x (arg g 0))) x a g n);
+        outside = λ q n h x a g.
+            moving_quiet k M C q t (ranged a (arg g 1) (arg g 2)) x (arg g 0) _ _
+            (λ h s. quiet_core M C x _ (alike_refl M C x))
+            (o q (first (queue k x (arg g 0))) x a g n);
       }
 
   pub read_sampling_message_respects : Respects k M C read_sampling_message

@@ -18,7 +18,7 @@ use Rattle.machine.specs.Faults.{is_systems, entry, noted, logged, carried, faul
 use Rattle.machine.specs.Monitor.{raise_partition_error, read, read_log, reset_system, halt_system}
 use Rattle.machine.specs.Step.{system_fault}
 use Rattle.machine.proofs.Agree.{agree_refl}
-use Rattle.machine.proofs.Alike.{Alike, Matched, Quiet, alike_refl, alike_sym, alike_log, log-out, matched_guard, matched_same, matched_system, within, without}
+use Rattle.machine.proofs.Alike.{Alike, Matched, Quiet, alike_refl, alike_log, matched_guard, matched_same, matched_system, within, without}
 use Rattle.machine.proofs.Sealed.{Sealed}
 use Rattle.machine.proofs.Respects.{Respects}
 use Rattle.machine.proofs.Targets.{no_system}
@@ -26,7 +26,7 @@ use Rattle.machine.proofs.Targets.{no_system}
 module _ (M C : ℕ → Bool) where
   -- the log is nobody's to see
   logged-out : (c : Scope) (e : ℕ) (r : Response) (x : Core) → Alike M C x (logged c e r x)
-  logged-out c e r x = cond_both r.log _ _ (Alike M C x) (λ _. log-out M C (alike_refl M C x) _) (λ _. alike_refl M C x)
+  logged-out c e r x = cond_both r.log _ _ (Alike M C x) (λ _. alike_log M C (alike_refl M C x) x.log _) (λ _. alike_refl M C x)
 
   logged_alike : (c : Scope) (e : ℕ) (r : Response) (x y : Core) → Alike M C x y → Alike M C (logged c e r x) (logged c e r y)
   logged_alike c e r x y s = go r.log
@@ -91,8 +91,8 @@ module _ (k : Tables) (M C : ℕ → Bool) where
 
   read_matched : (q : ℕ) (o p : Option Entry) (x y : Core) → is_system k q ≡ true → Alike M C x y → Matched k M C q (read x o) (read y p)
   read_matched q None None x y s r = matched_system k M C q keeps _ _ s r
-  read_matched q None (Some e) x y s r = matched_system k M C q keeps _ _ s (log-out M C r _)
-  read_matched q (Some e) None x y s r = matched_system k M C q keeps _ _ s (alike_sym M C (log-out M C (alike_sym M C r) _))
+  read_matched q None (Some e) x y s r = matched_system k M C q keeps _ _ s (alike_log M C r x.log _)
+  read_matched q (Some e) None x y s r = matched_system k M C q keeps _ _ s (alike_log M C r _ y.log)
   read_matched q (Some d) (Some e) x y s r = matched_system k M C q keeps _ _ s (alike_log M C r _ _)
 
 module _ (k : Tables) (M C : ℕ → Bool) (w : Sealed k M C) where

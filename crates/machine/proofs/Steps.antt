@@ -6,16 +6,18 @@ use Rattle.machine.specs.declared.clock.Clock.{Clock}
 use Rattle.machine.specs.declared.partition.Partition.{Partition}
 use Rattle.machine.specs.declared.event.Event.{Event}
 use Rattle.machine.specs.declared.event.Event.TheVariants.{Tick, Call, Load, Store, Fault, Line, SystemFault}
+use Rattle.machine.specs.declared.answer.Reply.{Reply}
 use Rattle.machine.specs.declared.answer.Refusal.TheVariants.{InvalidParam, SystemHalted}
 use Rattle.machine.specs.Partitions.{is_ready}
 use Rattle.machine.specs.Questions.{exists, is_system, names, owner, holder, slots_of, plan}
 use Rattle.machine.specs.State.{Core, State, Effect, keeps, writes, clears, clears_all, Out, refused, guard, area, wiped, wiped_all, applied, settle}
 use Rattle.machine.specs.Calls.{called}
 use Rattle.machine.specs.Interrupts.{line_of}
+use Rattle.machine.specs.Faults.{strayed}
 use Rattle.machine.specs.Step.{running, gate, load, store, fault, step}
 use Rattle.machine.specs.Isolation.{existing, is_of, stays, kept}
 use Rattle.machine.proofs.Agree.{Agree, agree_refl, agree_sym, agree_trans, agree_set, agree_out}
-use Rattle.machine.proofs.Alike.{Alike, Matched, Far, Quiet, alike_refl, alike_sym, alike_trans, matched_guard, matched_same, quiet_guard, quiet_core, quiet_writes}
+use Rattle.machine.proofs.Alike.{Alike, Matched, Far, Quiet, alike_refl, alike_sym, alike_trans, matched_guard, matched_same, quiet_guard, quiet_core}
 use Rattle.machine.proofs.Sealed.{Sealed}
 use Rattle.machine.proofs.Calls.{called_respects}
 use Rattle.machine.proofs.Signals.{line_matched, line_quiet}
@@ -60,21 +62,18 @@ module _ (M : ℕ → Bool) where
 
 -- the events that a partition may send
 module _ (k : Tables) (M C : ℕ → Bool) where
-  load_matched : (q o : ℕ) (x y : Core) (a : List ℕ) → Alike M C x y → Matched k M C q (load k x a q o) (load k y a q o)
-  load_matched q o x y a r =
-      matched_guard k M C q (ltb o (length a)) _ refl (λ _. matched_same k M C q keeps _ r) (λ _. strayed_matched k M C q x y r)
+  -- a load and a store, by what they do within the area
+  abbrev access : Effect → Reply → ℕ → ℕ → Core → List ℕ → Out
+  access f p q o x a = guard (ltb o (length a)) (record { core = x; effect = f; reply = p }) (strayed k x q)
 
-  load_quiet : (q o : ℕ) (x : Core) (a : List ℕ) → M q ≡ false → Quiet M C x (load k x a q o)
-  load_quiet q o x a h =
-      quiet_guard M C x (ltb o (length a)) (λ _. quiet_core M C x _ (alike_refl M C x)) (λ _. strayed_quiet M C k q x h)
+  access_matched : (f : Effect) (p : Reply) (q o : ℕ) (x y : Core) (a : List ℕ) → Alike M C x y →
+      Matched k M C q (access f p q o x a) (access f p q o y a)
+  access_matched f p q o x y a r =
+      matched_guard k M C q (ltb o (length a)) _ refl (λ _. matched_same k M C q f p r) (λ _. strayed_matched k M C q x y r)
 
-  store_matched : (q o v : ℕ) (x y : Core) (a : List ℕ) → Alike M C x y → Matched k M C q (store k x a q o v) (store k y a q o v)
-  store_matched q o v x y a r =
-      matched_guard k M C q (ltb o (length a)) _ refl (λ _. matched_same k M C q _ _ r) (λ _. strayed_matched k M C q x y r)
-
-  store_quiet : (q o v : ℕ) (x : Core) (a : List ℕ) → M q ≡ false → Quiet M C x (store k x a q o v)
-  store_quiet q o v x a h =
-      quiet_guard M C x (ltb o (length a)) (λ _. quiet_writes M C x _ _ (alike_refl M C x)) (λ _. strayed_quiet M C k q x h)
+  access_quiet : (f : Effect) (p : Reply) (q o : ℕ) (x : Core) (a : List ℕ) → M q ≡ false → Far M f → Quiet M C x (access f p q o x a)
+  access_quiet f p q o x a h n =
+      quiet_guard M C x (ltb o (length a)) (λ _. record { core = alike_refl M C x; effect = n }) (λ _. strayed_quiet M C k q x h)
 
   fault_matched : (q e : ℕ) (x y : Core) → Alike M C x y → Matched k M C q (fault k x q e) (fault k y q e)
   fault_matched q e x y r =
@@ -184,10 +183,10 @@ module _ (k : Tables) (M C : ℕ → Bool) (w : Sealed k M C) where
       (λ e a. (called_respects k M C w n).inside q e s.core t.core a g r.core) in
       record { state = settled q q s t _ _ r h; reply = λ p n e. said p q h n e }
   step_steady (Load q o) s t m r =
-      let h = acts (λ x a. load k x a q o) q (member k M q m) s t r (λ e a. load_matched k M C q o s.core t.core a r.core) in
+      let h = acts (λ x a. load k x a q o) q (member k M q m) s t r (λ e a. access_matched k M C _ _ q o s.core t.core a r.core) in
       record { state = settled q q s t _ _ r h; reply = λ p n e. said p q h n e }
   step_steady (Store q o v) s t m r =
-      let h = acts (λ x a. store k x a q o v) q (member k M q m) s t r (λ e a. store_matched k M C q o v s.core t.core a r.core) in
+      let h = acts (λ x a. store k x a q o v) q (member k M q m) s t r (λ e a. access_matched k M C _ _ q o s.core t.core a r.core) in
       record { state = settled q q s t _ _ r h; reply = λ p n e. said p q h n e }
   step_steady (Fault q f) s t m r =
       let h = acts (λ x a. fault k x q f) q (member k M q m) s t r (λ e a. fault_matched k M C q f s.core t.core r.core) in
@@ -219,10 +218,10 @@ module _ (k : Tables) (M C : ℕ → Bool) (w : Sealed k M C) where
       (halting_quiet s _ (gate_quiet k M C q s.core _ ((called_respects k M C w n).outside q o.out o.there s.core (area s.areas q) g)))
   step_quiet (Load q i) s h =
       let o = outsider k M q h in
-      settled_quiet q s _ o.out (halting_quiet s _ (gate_quiet k M C q s.core _ (load_quiet k M C q i s.core (area s.areas q) o.out)))
+      settled_quiet q s _ o.out (halting_quiet s _ (gate_quiet k M C q s.core _ (access_quiet k M C _ _ q i s.core (area s.areas q) o.out tt)))
   step_quiet (Store q i v) s h =
       let o = outsider k M q h in
-      settled_quiet q s _ o.out (halting_quiet s _ (gate_quiet k M C q s.core _ (store_quiet k M C q i v s.core (area s.areas q) o.out)))
+      settled_quiet q s _ o.out (halting_quiet s _ (gate_quiet k M C q s.core _ (access_quiet k M C _ _ q i s.core (area s.areas q) o.out tt)))
   step_quiet (Fault q f) s h =
       let o = outsider k M q h in
       settled_quiet q s _ o.out (halting_quiet s _ (gate_quiet k M C q s.core _ (fault_quiet k M C q f s.core o.out)))

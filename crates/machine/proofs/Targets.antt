@@ -11,7 +11,8 @@ use Rattle.machine.specs.Questions.{exists, is_system, manages, plan, slots_of}
 use Rattle.machine.specs.State.{Core, Out, keeps, done, refused, guard, with_parts, modify}
 use Rattle.machine.specs.Time.{clock_of}
 use Rattle.machine.specs.Management.{arg, on_target, get_time, get_partition_status, halt_partition, suspend_partition, resume_partition, reset_partition, idle_self, switch_plan, gaps, get_plan_status}
-use Rattle.machine.proofs.Alike.{Alike, Matched, Quiet, alike_refl, matched_guard, matched_same, matched_told, matched_system, matched_far, parts_out, modify-out, within, without}
+use Rattle.machine.proofs.Agree.{agree_out}
+use Rattle.machine.proofs.Alike.{Alike, Matched, Quiet, alike_refl, matched_guard, matched_same, matched_told, matched_system, matched_far, parts_out, within, without}
 use Rattle.machine.proofs.Sealed.{Sealed}
 use Rattle.machine.proofs.Respects.{Respects, own_respects}
 
@@ -88,8 +89,8 @@ module _ (k : Tables) (M C : ℕ → Bool) (w : Sealed k M C) where
         | inl s ↦ let same = ap test (r.parts.at t s) in search within depth 8
         | inr o ↦
             matched_far k M C q (test (get_or x.parts t nobody)) (test (get_or y.parts t nobody)) _ _ (above q t m o e) r
-            (parts_out M C (alike_refl M C x) (modify-out M C x.parts t f o)) (alike_refl M C x)
-            (parts_out M C (alike_refl M C y) (modify-out M C y.parts t f o)) (alike_refl M C y)
+            (parts_out M C (alike_refl M C x) (agree_out M nobody x.parts t _ o)) (alike_refl M C x)
+            (parts_out M C (alike_refl M C y) (agree_out M nobody y.parts t _ o)) (alike_refl M C y)
       ]
 
   on_state_respects : (test : Partition → Bool) (f : Partition → Partition) →

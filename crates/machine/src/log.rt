@@ -1,7 +1,7 @@
 // An entry of the health monitor's log.
 ghost use Rattle.std.specs.Prelude.{◌≡◌};
 ghost use Rattle.machine.specs.Answers.{packed};
-ghost use Rattle.machine.specs.Packing.{Below, Unpacks};
+ghost use Rattle.machine.specs.Packing.{Below, Telling, Unpacks};
 
 use crate::clock::Time;
 pub use vector::record::SYSTEM;
@@ -19,10 +19,11 @@ pub struct Entry {
 
 impl Entry {
     /// All but the time in one word: scope, event and action, a byte each.
-    #[tactic(auto, using(crate::proofs::Packing::unpacks))]
+    #[tactic(auto, using(crate::proofs::Packing::unpacks, crate::proofs::Packing::telling))]
     pub(crate) fn packed(&self) -> u32
         ensures is { result ≡ packed self.now }
         ensures told { Below self.now.scope → Unpacks self.now result }
+        ensures telling { Telling }
     {
         u32::from(u8::from(self.scope))
             + 256 * u32::from(self.event)
