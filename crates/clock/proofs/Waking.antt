@@ -1,7 +1,8 @@
 -- The algebra of waking: ranges of offsets join, and a range within another adds nothing.
 use Rattle.std.proofs.Common.{◌≡◌, ℕ, zero, suc, ◌+◌, ◌<◌, ◌≤◌, Bool, true, false, ◌&&◌, ◌||◌, eqb, ◌≢◌, List, [], ◌∷◌, ◌++◌, length, get_or, take, set, sym, refl, ap, ap₂, ◌∙◌, arith}
 use Rattle.std.specs.List.{list_any}
-use Rattle.std.proofs.lemmas.Bool.{both_ways, eq-eqb, ne_eqb}
+use Rattle.std.proofs.Math.Bool.{or-false, or_assoc, and-false, and-or_distrib_left}
+use Rattle.std.proofs.lemmas.Bool.{both_ways, or_parts, eq-eqb, ne_eqb}
 use Rattle.std.proofs.lemmas.Bool.Decides.{nat_tests}
 use Rattle.std.proofs.lemmas.List.{take_more}
 use Rattle.vector.specs.declared.tables.Slot.{Slot}
@@ -12,31 +13,15 @@ use Rattle.machine.specs.Partitions.{with_status, is_idle, roused, woken}
 use Rattle.machine.specs.Time.{due_at, each_from, wakes, wake_at}
 use Rattle.clock.specs.Ranges.{sleeps, within, begins, starts, wakes_in, wake}
 
-or_false : (x : Bool) → (x || false) ≡ x
-or_false true = refl
-or_false false = refl
-
-or_assoc : (x y z : Bool) → (x || (y || z)) ≡ ((x || y) || z)
-or_assoc true y z = refl
-or_assoc false y z = refl
-
 or_swap : (x a y b : Bool) → (x || a) || (y || b) ≡ (x || y) || (a || b)
 or_swap true a y b = refl
 or_swap false true true b = refl
 or_swap false true false b = refl
 or_swap false false y b = refl
 
-and_over : (x y z : Bool) → ((x && y) || (x && z)) ≡ (x && (y || z))
-and_over true y z = refl
-and_over false y z = refl
-
-and_false : (x : Bool) → (x && false) ≡ false
-and_false true = refl
-and_false false = refl
-
 begins_both : (s : Slot) (a b c d e f q : ℕ) → ((o : ℕ) → (within a b o || within c d o) ≡ within e f o) → (begins s a b q || begins s c d q) ≡ begins s e f q
 begins_both s a b c d e f q h =
-    and_over (eqb s.partition q) (within a b s.start) (within c d s.start) ∙ ap (λ z. eqb s.partition q && z) (h s.start)
+    sym (and-or_distrib_left (eqb s.partition q) (within a b s.start) (within c d s.start)) ∙ ap (λ z. eqb s.partition q && z) (h s.start)
 
 -- what holds of each offset holds of the slots: two ranges that make up a third
 starts_both : (ss : List Slot) (a b c d e f q : ℕ) → ((o : ℕ) → (within a b o || within c d o) ≡ within e f o) →
@@ -54,7 +39,7 @@ unfolding starts
 starts_none [] a b q h = refl
 starts_none (s ∷ ss) a b q h =
     ap (λ z. (eqb s.partition q && z) || starts ss a b q) (h s.start)
-    ∙ ap (λ z. z || starts ss a b q) (and_false (eqb s.partition q))
+    ∙ ap (λ z. z || starts ss a b q) (and-false (eqb s.partition q))
     ∙ starts_none ss a b q h
 
 -- .. and a range of one
@@ -68,13 +53,8 @@ starts-one (s ∷ ss) o q =
 -- one slot more
 starts-push : (ss : List Slot) (s : Slot) (a b q : ℕ) → starts (ss ++ s ∷ []) a b q ≡ (starts ss a b q || begins s a b q)
 unfolding starts
-starts-push [] s a b q = or_false (begins s a b q)
-starts-push (x ∷ ss) s a b q = ap (λ z. begins x a b q || z) (starts-push ss s a b q) ∙ or_assoc (begins x a b q) (starts ss a b q) (begins s a b q)
-
-or_none : (x y : Bool) → (x || y) ≡ false → (x ≡ false) × (y ≡ false)
-or_none false false e = (refl, refl)
-or_none false true e = absurd (both_ways true e refl)
-or_none true y e = absurd (both_ways true e refl)
+starts-push [] s a b q = or-false (begins s a b q)
+starts-push (x ∷ ss) s a b q = ap (λ z. begins x a b q || z) (starts-push ss s a b q) ∙ sym (or_assoc (begins x a b q) (starts ss a b q) (begins s a b q))
 
 roused_twice : (s : Status) → roused (roused s) ≡ roused s
 roused_twice Halted = refl
@@ -180,7 +160,7 @@ each_awake : (ss : List Slot) (a b i : ℕ) (ps : List Partition) → list_any s
 unfolding each_from
 each_awake ss a b i [] n = refl
 each_awake ss a b i (p ∷ ps) n =
-    let m = or_none (sleeps p) (list_any sleeps ps) n in
+    let m = or_parts (sleeps p) (list_any sleeps ps) n in
     ap₂ ◌∷◌ (woken_awake p.status (starts ss a b i) p refl m.0) (each_awake ss a b (i + 1) ps m.1)
 
 -- where nobody sleeps nobody wakes
