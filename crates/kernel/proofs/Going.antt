@@ -1,5 +1,5 @@
 -- A run goes on by one event.
-use Rattle.std.proofs.Common.{◌≡◌, ℕ, ◌+◌, ◌<◌, ◌≤◌, List, [], ◌∷◌, ◌++◌, length, get_or, take, drop, set, sym, refl, ap, ◌∙◌, ap₂, arith, Result}
+use Rattle.std.proofs.Common.{◌≡◌, ℕ, ◌+◌, ◌<◌, ◌≤◌, List, [], ◌∷◌, ◌++◌, length, get_or, take, drop, set, sym, ap, ◌∙◌, ap₂, arith, Result}
 use Rattle.std.proofs.lemmas.List.{drop_more, drop_all, drop-set-lt, take_all, take_more_set, map_push, append_assoc, append-nil}
 use Rattle.vector.specs.declared.tables.Tables.{Tables}
 use Rattle.machine.specs.declared.event.Exchange.{Exchange}
@@ -18,9 +18,6 @@ pub record Underway (z : World) (h : List Exchange) (w : World) (i : ℕ) (g : L
   pub tables : w.tables ≡ z.tables
   pub state : after z.tables w.state (events_of (drop i g)) ≡ after z.tables z.state (events_of h)
   pub told : lines_of (take i g) ++ lines z.tables w.state (events_of (drop i g)) ≡ lines z.tables z.state (events_of h)
-
-pub begun : (z : World) (h : List Exchange) → Underway z h z 0 h
-begun z h = record { tables = refl; state = refl; told = refl }
 
 abbrev answered_by : Exchange → Result Answer Refusal → Exchange
 answered_by x r = record { event = x.event; answer = r }

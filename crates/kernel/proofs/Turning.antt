@@ -1,8 +1,9 @@
 -- Between the edges of slots the same partition runs, and nobody wakes.
-use Rattle.std.proofs.Common.{◌≡◌, ℕ, suc, ◌+◌, ◌-◌, ◌<◌, ◌≤◌, min, Bool, true, false, cond, ◌&&◌, ◌||◌, eqb, leb, ltb, List, [], ◌∷◌, length, get_or, drop, Some, None, Option, inl, inr, sym, refl, ap, ap₂, ◌∙◌, arith}
+use Rattle.std.proofs.Common.{◌≡◌, ℕ, suc, ◌+◌, ◌-◌, ◌<◌, ◌≤◌, min, true, false, cond, ◌&&◌, ◌||◌, eqb, leb, ltb, List, [], ◌∷◌, length, get_or, drop, Some, None, Option, inl, inr, sym, refl, ap, ap₂, ◌∙◌, arith}
 use Rattle.std.proofs.lemmas.List.{drop_more, drop_all, length-drop, length-take, get_or-drop, get_or-take}
 use Rattle.std.proofs.Math.Nat.{min-le_left, min-le_right, min-eq_left, min-eq_right}
-use Rattle.std.proofs.lemmas.Bool.{both_ways, cases_lt, cond-true, cond-false, lt-ltb, le-ltb, eq-eqb}
+use Rattle.std.proofs.Math.Bool.{and-false}
+use Rattle.std.proofs.lemmas.Bool.{both_ways, or_parts, cases_lt, cond-true, cond-false, lt-ltb, le-ltb, eq-eqb}
 use Rattle.std.proofs.lemmas.Bool.Decides.{nat_tests}
 use Rattle.vector.specs.Tables.{Plans}
 use Rattle.vector.specs.declared.tables.Plan.{Plan}
@@ -21,34 +22,23 @@ use Rattle.clock.proofs.Waking.{wake-calm}
 use Rattle.kernel.specs.Turns.{edges, Calm, edge, first_edge, turn_of, Turned}
 use Rattle.kernel.specs.declared.turn.Turn.{Turn}
 
--- where none of three tests holds
-neither : (a b c : Bool) → ((a || b) || c) ≡ false → (a ≡ false) × (b ≡ false) × (c ≡ false)
-neither false false false e = (refl, refl, refl)
-neither false false true e = absurd (both_ways true e refl)
-neither false true c e = absurd (both_ways true e refl)
-neither true b c e = absurd (both_ways true e refl)
-
-and_false : (b : Bool) → (b && false) ≡ false
-and_false true = refl
-and_false false = refl
-
 module _ (o u : ℕ) where
   -- what is calm of a slot and others is calm of the others, and of the slot
   rest : (s : Slot) (ss : List Slot) → Calm (s ∷ ss) o u → Calm ss o u
   unfolding edges
-  rest s ss h x l m = (neither (eqb s.start x) (eqb (s.start + s.duration) x) (edges ss x) (h x l m)).2
+  rest s ss h x l m = (or_parts (eqb s.start x || eqb (s.start + s.duration) x) (edges ss x) (h x l m)).1
 
   no_start : (s : Slot) (ss : List Slot) → Calm (s ∷ ss) o u → o < s.start → s.start < u → ⊥
   unfolding edges
   no_start s ss h l m =
       let x = s.start in
-      both_ways (eqb x x) (neither (eqb x x) (eqb (s.start + s.duration) x) (edges ss x) (h x l m)).0 (eq-eqb x x refl)
+      both_ways (eqb x x) (or_parts (eqb x x) _ (or_parts (eqb x x || eqb (s.start + s.duration) x) (edges ss x) (h x l m)).0).0 (eq-eqb x x refl)
 
   no_end : (s : Slot) (ss : List Slot) → Calm (s ∷ ss) o u → o < s.start + s.duration → s.start + s.duration < u → ⊥
   unfolding edges
   no_end s ss h l m =
       let x = s.start + s.duration in
-      both_ways (eqb x x) (neither (eqb s.start x) (eqb x x) (edges ss x) (h x l m)).1 (eq-eqb x x refl)
+      both_ways (eqb x x) (or_parts (eqb s.start x) _ (or_parts (eqb s.start x || eqb x x) (edges ss x) (h x l m)).0).1 (eq-eqb x x refl)
 
   -- an edge that is not crossed lies before both offsets, or before neither
   same_before : (x e : ℕ) → (o < e → e < u → ⊥) → o ≤ x → x < u → leb e x ≡ leb e o
@@ -85,7 +75,7 @@ module _ (o u : ℕ) where
   unfolding starts
   no_starts [] x q h m = refl
   no_starts (s ∷ ss) x q h m =
-      ap₂ (λ y z. (eqb s.partition q && y) || z) (no_begin s ss x h m) (no_starts ss x q (rest s ss h) m) ∙ ap (λ y. y || false) (and_false (eqb s.partition q))
+      ap₂ (λ y z. (eqb s.partition q && y) || z) (no_begin s ss x h m) (no_starts ss x q (rest s ss h) m) ∙ ap (λ y. y || false) (and-false (eqb s.partition q))
 
 -- the edge found is not after the bound, and the slot has none before it
 edge-in : (s : Slot) (o u : ℕ) → (edge s o u ≤ u) × ((x : ℕ) → o < x → x < edge s o u → (eqb s.start x || eqb (s.start + s.duration) x) ≡ false)
