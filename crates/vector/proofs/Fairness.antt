@@ -1,12 +1,12 @@
 -- What the core rests on follows from the laws of a taken vector.
-use Rattle.std.proofs.Common.{◌≡◌, ℕ, zero, suc, ◌<◌, ◌≤◌, true, cond, eqb, List, [], ◌∷◌, length, get_or, take, sym, ap, ◌∙◌, subst, ⊎_elim, arith}
+use Rattle.std.proofs.Common.{◌≡◌, ℕ, zero, suc, ◌<◌, ◌≤◌, true, cond, eqb, List, [], ◌∷◌, length, get_or, take, Ok, sym, ap, ◌∙◌, subst, ⊎_elim, arith}
 use Rattle.std.proofs.lemmas.List.{get_or-take, length-take}
 use Rattle.std.proofs.lemmas.Bool.{cases_lt, cond-true, eq-eqb}
 use Rattle.vector.specs.Blank.{port0}
 use Rattle.vector.specs.Fair.{AllWithin, Connected, OneSource, OneDestination, Fair}
 use Rattle.vector.specs.Joins.{is_queuing}
 use Rattle.vector.specs.Laws as laws
-use Rattle.vector.specs.Laws.{ports_of, Lawful}
+use Rattle.vector.specs.Laws.{ports_of, Lawful, Kept}
 use Rattle.vector.specs.Out.{fine}
 use Rattle.vector.specs.Reading.{reading, gathered, takes, tables}
 use Rattle.vector.specs.declared.sofar.Sofar.{Sofar}
@@ -114,15 +114,18 @@ module _ (t : Tables) (l : Lawful t) (size : t.ports.count ≤ length t.ports.ro
   pub lawful-fair : Fair t
   lawful-fair = (within, connected, one-source, one-destination)
 
-read-fair : (bs : List ℕ) (s : Sofar) → reading bs ≡ fine s → Fair s.tables
-read-fair bs s e =
-    let w = (taken-keeps Fit fit-kept fit-nothing bs s e).0.1.wires in
-    lawful-fair s.tables (read-lawful bs s e).1 (omega (arith, w.size, w.few))
+-- what is kept by the tables of a reading that came to its end
+read-kept : (bs : List ℕ) (s : Sofar) → reading bs ≡ fine s → Kept (Ok s.tables)
+read-kept bs s e =
+    let f = (taken-keeps Fit fit-kept fit-nothing bs s e).0.1 in
+    let l = read-lawful bs s e in
+    (l.0, l.1, f.partitions.sized, lawful-fair s.tables l.1 (omega (arith, f.wires.size, f.wires.few)))
 
-pub gathered-fair : (bs : List ℕ) (t : Tables) → gathered bs ≡ fine t → Fair t
-gathered-fair bs t e =
+-- .. and by those that a vector gives
+pub gathered-kept : (bs : List ℕ) (t : Tables) → gathered bs ≡ fine t → Kept (Ok t)
+gathered-kept bs t e =
     let s = then-fine (reading bs) (λ s. fine s.tables) t e in
-    same-fine Fair s.0.tables t s.2 (read-fair bs s.0 s.1)
+    same-fine (λ t. Kept (Ok t)) s.0.tables t s.2 (read-kept bs s.0 s.1)
 
 pub takes-fair : (bs : List ℕ) → takes bs ≡ true → Fair (tables bs)
-takes-fair bs e = let o = taken-read bs e in subst Fair o.1.1 (read-fair bs o.0 o.1.0)
+takes-fair bs e = let o = taken-read bs e in subst Fair o.1.1 (read-kept bs o.0 o.1.0).3

@@ -150,17 +150,9 @@ module _ (n : ℕ) (t : Tables) (x : Port) (f : Wired n t) (h : 1 ≤ t.channels
     no_clash : (i : ℕ) → i < t.ports.count → clash x (port_at i t) ≡ false
     no_clash i l = none_passes (clash x) t.ports.rows t.ports.count i port0 clear l (omega (arith, f.size))
 
-    other-partition : (i : ℕ) → i < t.ports.count → (port_at i t).channel ≡ x.channel → (port_at i t).partition ≡ x.partition → ⊥
-    other-partition i l e q =
-        let p = port_at i t in
-        both_ways (clash x p) (no_clash i l)
-        (and_from (eqb x.partition p.partition) (eqb x.channel p.channel || same_name x.name p.name) (eq-eqb _ _ (sym q)) (or_left (eqb x.channel p.channel) (same_name x.name p.name) (eq-eqb _ _ (sym e))))
-
-    other_name : (i : ℕ) → i < t.ports.count → (port_at i t).partition ≡ x.partition → (port_at i t).name ≡ x.name → ⊥
-    other_name i l q e =
-        let p = port_at i t in
-        both_ways (clash x p) (no_clash i l)
-        (and_from (eqb x.partition p.partition) (eqb x.channel p.channel || same_name x.name p.name) (eq-eqb _ _ (sym q)) (or_right (eqb x.channel p.channel) (same_name x.name p.name) (same-name _ _ (sym e))))
+    -- so no port of the same partition has the same channel or name
+    no_twin : (i : ℕ) → i < t.ports.count → (port_at i t).partition ≡ x.partition → (eqb x.channel (port_at i t).channel || same_name x.name (port_at i t).name) ≡ true → ⊥
+    no_twin i l q h = both_ways (clash x (port_at i t)) (no_clash i l) (and_from (eqb x.partition (port_at i t).partition) _ (eq-eqb _ _ (sym q)) h)
 
     pub fit-port : x.partition < n → x.direction ≡ next_direction t → is_full t ≡ false → Wired n (add_port x t)
     fit-port p d full =
@@ -183,7 +175,7 @@ module _ (n : ℕ) (t : Tables) (x : Port) (f : Wired n t) (h : 1 ≤ t.channels
               omega (arith, one, old, count_more c))
               (λ ne. let none : cond {A = ℕ} (eqb x.channel c) 1 0 ≡ 0 = cond-false (eqb x.channel c) 1 0 (ne_eqb x.channel c (λ e. ne (sym own ∙ e))) in omega (arith, none, count_more c, f.counted c l));
           belong = one_more (λ _ (y : Port). (y.partition < n) × (y.channel < cs.count)) ps.rows ps.count x port0 lt f.belong (p, omega arith);
-          first = pairs_more Follows ps.rows ps.count x port0 lt f.first (λ i l e. (d ∙ next-destination i l e, other-partition i l e));
-          names = pairs_more Named ps.rows ps.count x port0 lt f.names (λ i l. other_name i l);
+          first = pairs_more Follows ps.rows ps.count x port0 lt f.first (λ i l e. (d ∙ next-destination i l e, λ q. no_twin i l q (or_left _ _ (eq-eqb _ _ (sym e)))));
+          names = pairs_more Named ps.rows ps.count x port0 lt f.names (λ i l q e. no_twin i l q (or_right _ _ (same-name _ _ (sym e))));
           sources = sources_on d;
         }

@@ -4,18 +4,16 @@ use Rattle.std.proofs.lemmas.Nat.{pow_pos, pow_below, div_below}
 use Rattle.std.proofs.lemmas.Bool.{and_parts, eqb-true, false≢true, cases_lt, cases_eq, both_ways}
 use Rattle.vector.specs.Out.{Out, fine, bad, then}
 use Rattle.vector.specs.Fields.{has_bit}
-use Rattle.vector.specs.Laws.{channel_at, plan_at, SlotInPlace, AreasSized, Lawful}
+use Rattle.vector.specs.Laws.{channel_at, plan_at, SlotInPlace, Lawful}
 use Rattle.vector.specs.Ranges.{Mask}
 use Rattle.vector.specs.Rows.{blank}
 use Rattle.vector.specs.Sound.{SoundPlan, Sound}
 use Rattle.vector.specs.Turns.{ends, has_partitions, has_plans, has_ports, settled}
 use Rattle.vector.specs.Rooms.{Room}
-use Rattle.vector.specs.Reading.{reading, gathered, verdict_of, taken, refused, takes, tables}
+use Rattle.vector.specs.Reading.{reading, verdict_of, taken, refused, takes, tables}
 use Rattle.vector.specs.declared.record.Kind.{Kind}
 use Rattle.vector.specs.declared.sofar.Sofar.{Sofar}
 use Rattle.vector.specs.declared.tables.Plan as plans
-use Rattle.vector.specs.declared.tables.Tables.{Tables}
-use Rattle.vector.proofs.Outs.{then-fine, same-fine}
 use Rattle.vector.proofs.Keeps.{taken-keeps}
 use Rattle.vector.proofs.FitPlans.{FitPlan}
 use Rattle.vector.proofs.Fits.{Fit, two-ports, fit-kept, fit-nothing}
@@ -97,12 +95,6 @@ module _ (s : Sofar) (r : Room s) (f : Fit s) (e : settled s ≡ true) where
 pub read-lawful : (bs : List ℕ) (s : Sofar) → reading bs ≡ fine s → Sound s.tables × Lawful s.tables
 read-lawful bs s e = let k = taken-keeps Fit fit-kept fit-nothing bs s e in (sound s k.0.0 k.0.1 k.1, lawful s k.0.0 k.0.1 k.1)
 
--- the tables that a vector gives are sound
-pub gathered-sound : (bs : List ℕ) (t : Tables) → gathered bs ≡ fine t → Sound t
-gathered-sound bs t e =
-    let s = then-fine (reading bs) (λ s. fine s.tables) t e in
-    same-fine Sound s.0.tables t s.2 (read-lawful bs s.0 s.1).0
-
 taken_fine : (o : Out Sofar) → (elim (verdict_of o) [ taken ↦ true | refused l n p ↦ false ]) ≡ true → (s : Sofar) × (o ≡ fine s)
 taken_fine (fine s) e = (s, refl)
 taken_fine (bad r) e = absurd (false≢true e)
@@ -113,15 +105,3 @@ tables-read bs s e = sym (ap (λ (o : Out Sofar). elim (then o (λ (s : Sofar). 
 -- a vector that is taken was read to its end
 pub taken-read : (bs : List ℕ) → takes bs ≡ true → (s : Sofar) × ((reading bs ≡ fine s) × (s.tables ≡ tables bs))
 taken-read bs e = let o = taken_fine (reading bs) e in (o.0, (o.1, tables-read bs o.0 o.1))
-
--- the tables that a vector gives are lawful
-pub gathered-lawful : (bs : List ℕ) (t : Tables) → gathered bs ≡ fine t → Lawful t
-gathered-lawful bs t e =
-    let s = then-fine (reading bs) (λ s. fine s.tables) t e in
-    same-fine Lawful s.0.tables t s.2 (read-lawful bs s.0 s.1).1
-
--- the tables that a vector gives have areas of 1 to 1,024 bytes
-pub gathered-sized : (bs : List ℕ) (t : Tables) → gathered bs ≡ fine t → AreasSized t
-gathered-sized bs t e =
-    let s = then-fine (reading bs) (λ s. fine s.tables) t e in
-    same-fine AreasSized s.0.tables t s.2 (taken-keeps Fit fit-kept fit-nothing bs s.0 s.1).0.1.partitions.sized

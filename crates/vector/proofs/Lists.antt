@@ -1,5 +1,5 @@
 -- What holds of the rows of a table.
-use Rattle.std.proofs.Common.{◌≡◌, ℕ, zero, suc, ◌+◌, ◌<◌, ◌≤◌, Bool, false, List, [], ◌∷◌, length, get_or, take, set, replicate, sym, refl, ap, subst, inl, inr, arith, get_or-set_other, get_or-set_same}
+use Rattle.std.proofs.Common.{◌≡◌, ℕ, zero, suc, ◌+◌, ◌<◌, ◌≤◌, Bool, false, List, [], ◌∷◌, length, get_or, take, set, replicate, sym, refl, ap, ◌∙◌, subst, inl, inr, arith, get_or-set_other, get_or-set_same}
 use Rattle.std.proofs.lemmas.Bool.{cases_eq, or_parts}
 use Rattle.vector.specs.Names.{any}
 
@@ -49,11 +49,7 @@ module _ {A : Type 0} (R : A → A → Type 0) where
 module _ {A B : Type 0} (g : A → B) where
   -- a part of the rows that the new row has as the old one had it
   pub same-part : (xs : List A) (n i : ℕ) (v d : A) → g v ≡ g (get_or xs n d) → g (get_or (set xs n v) i d) ≡ g (get_or xs i d)
-  same-part [] n i v d e = refl
-  same-part (x ∷ xs) zero zero v d e = e
-  same-part (x ∷ xs) zero (suc i) v d e = refl
-  same-part (x ∷ xs) (suc n) zero v d e = refl
-  same-part (x ∷ xs) (suc n) (suc i) v d e = same-part xs n i v d e
+  same-part xs n i v d e = replaced (λ y. g y ≡ g (get_or xs i d)) xs n i v d (λ m. e ∙ ap (λ k. g (get_or xs k d)) m) refl
 
 module _ {A : Type 0} (test : A → Bool) where
   -- where none of the first n rows passes a test

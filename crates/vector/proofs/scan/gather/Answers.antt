@@ -2,8 +2,7 @@ use Rattle.std.proofs.Common.{sym, ap, ◌∙◌}
 use Rattle.std.proofs.lemmas.Result.{err_from_is_err_and}
 use Rattle.vector.specs.Out.{fine}
 use Rattle.vector.specs.Points.{point_of, shown_of}
-use Rattle.vector.proofs.Fairness.{gathered-fair}
-use Rattle.vector.proofs.Laws.{gathered-sound, gathered-lawful, gathered-sized}
+use Rattle.vector.proofs.Fairness.{gathered-kept}
 use Rattle.vector.proofs.Scans.{goes_on, stops, fails, gathered-bad, gathered-fine}
 use Rattle.vector.proofs.scan.gather.Goals as goal
 
@@ -30,4 +29,4 @@ returns c =
     let bs = c.args.bytes.now in
     let e = c.in_ok-next_record.ensures in
     let is = gathered-fine bs _ (sym c.loop.invariant ∙ stops (point_of c.loop.records) (point_of c.next_record.new.self) (ap (λ o. fine (shown_of o)) (sym c.in_default.is) ∙ e.answer) e.after) in
-    record { is = is; kept = (gathered-sound bs _ (sym is), gathered-lawful bs _ (sym is), gathered-sized bs _ (sym is), gathered-fair bs _ (sym is)) }
+    record { is = is; kept = gathered-kept bs _ (sym is) }
