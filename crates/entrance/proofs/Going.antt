@@ -1,5 +1,5 @@
 -- The records are answered one by one.
-use Rattle.std.proofs.Common.{◌≡◌, ℕ, suc, ◌+◌, ◌-◌, ◌*◌, ◌<◌, ◌≤◌, true, false, List, [], ◌++◌, length, take, drop, Some, None, Option, sym, ap, ◌∙◌, ap₂, arith, le-leb, nat_eq, true-eqb}
+use Rattle.std.proofs.Common.{◌≡◌, ℕ, suc, ◌+◌, ◌-◌, ◌*◌, ◌<◌, ◌≤◌, Bool, true, false, cond, List, [], ◌++◌, length, take, drop, Some, None, Option, sym, ap, ◌∙◌, ap₂, arith, le-leb, nat_eq, true-eqb}
 use borrow.Author.Tests.{lt-leb}
 use Rattle.std.proofs.lemmas.List.{take_all, take-append-drop, nil_from_length}
 use Rattle.vector.specs.declared.tables.Tables.{Tables}
@@ -77,24 +77,21 @@ module _ (z : World) (records old : List ℕ) (w : World) (rest new : List ℕ) 
   abbrev pub Ends : Ending → Type 0
   Ends e = (e ≡ records_end (read_of records) (room_in old)) × (new ≡ written z (read_of records) old) × (w ≡ reached z (read_of records) old)
 
+  -- .. so it is where no event is left to read, whole or not
+  none_left : (b : Bool) → read_of rest ≡ record { events = []; whole = b } → Ends (cond b (answered count) malformed)
+  none_left b q =
+      let y : (read_of records).whole ≡ b = sym u.whole ∙ ap (λ (q : Read). q.whole) q in
+      let n : length (read_of records).events ≡ count = omega (arith, ap (λ (q : Read). length q.events) q, u.counts) in
+      let t = le-leb count (room_in old) u.fits in
+      let s = stands (ap (λ (q : Read). take (room_in old - count) q.events) q ∙ take_all (room_in old - count) [] (omega arith)) in
+      (rw (y, n, t), s.0, s.1)
+
   pub over : true ≡ nat_eq (length rest) 0 → Ends (answered count)
   unfolding read_after
-  over l =
-      let q : read_of rest ≡ record { events = []; whole = true } = ap read_of (nil_from_length rest (true-eqb (length rest) 0 l)) in
-      let y : (read_of records).whole ≡ true = sym u.whole ∙ ap (λ (q : Read). q.whole) q in
-      let n : length (read_of records).events ≡ count = omega (arith, ap (λ (q : Read). length q.events) q, u.counts) in
-      let t = le-leb count (room_in old) u.fits in
-      let b = stands (ap (λ (q : Read). take (room_in old - count) q.events) q ∙ take_all (room_in old - count) [] (omega arith)) in
-      (rw (y, n, t), b.0, b.1)
+  over l = none_left true (ap read_of (nil_from_length rest (true-eqb (length rest) 0 l)))
 
   pub cut_short : false ≡ nat_eq (length rest) 0 → first rest ≡ None → Ends malformed
-  cut_short l f =
-      let q : read_of rest ≡ record { events = []; whole = false } = read-then rest l ∙ ap (λ (o : Option Event). before o (read_of (beyond 4 rest))) f in
-      let y : (read_of records).whole ≡ false = sym u.whole ∙ ap (λ (q : Read). q.whole) q in
-      let n : length (read_of records).events ≡ count = omega (arith, ap (λ (q : Read). length q.events) q, u.counts) in
-      let t = le-leb count (room_in old) u.fits in
-      let b = stands (ap (λ (q : Read). take (room_in old - count) q.events) q ∙ take_all (room_in old - count) [] (omega arith)) in
-      (rw (y, n, t), b.0, b.1)
+  cut_short l f = none_left false (read-then rest l ∙ ap (λ (o : Option Event). before o (read_of (beyond 4 rest))) f)
 
   pub no_room : (e : Event) → false ≡ nat_eq (length rest) 0 → first rest ≡ Some e → count ≡ room_in old → Ends full
   no_room e l f h =
