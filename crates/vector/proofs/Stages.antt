@@ -1,5 +1,6 @@
 -- A configuration record by record: its stages, what the reader's state shows of each, and the rule of the next record.
 use Rattle.std.proofs.Common.{◌≡◌, ℕ, ◌+◌, ◌-◌, ◌<◌, ◌≤◌, Bool, true, false, cond, ◌&&◌, ◌||◌, eqb, ltb, leb, List, [], ◌∷◌, length, get_or, take, Some, sym, refl, ap, ◌∙◌, subst, ap₂, inl, inr, arith, length-append}
+use Rattle.std.proofs.Math.Bool.{and-true}
 use Rattle.std.proofs.lemmas.Bool.{and_parts, and_from, and_cases, or_parts, or_from, or_left, or_right, eq-eqb, ne_eqb, ltb-true, lt-ltb, le-leb, leb-false, lt-leb, cond-true, cond-false, both_ways}
 use Rattle.vector.specs.Blank.{channel0}
 use Rattle.vector.specs.Bodies.{NameAt, partition, plan, port, action, next_direction}
@@ -71,10 +72,6 @@ module _ {A : Type 0} where
   any_same f g e [] = refl
   any_same f g e (x ∷ xs) = ap₂ ◌||◌ (e x) (any_same f g e xs)
 
-and_yes : (a : Bool) → (a && true) ≡ a
-and_yes true = refl
-and_yes false = refl
-
 in_others : (p c : ℕ) (n : List ℕ) (ks : List ChannelIn) → length ks ≤ c → clashes_in p c n ks ≡ any (is_called p n) (ports_in ks)
 in_others p c n [] h = refl
 in_others p c n (k ∷ ks) h =
@@ -83,7 +80,7 @@ in_others p c n (k ∷ ks) h =
 
 in_channel : (p c : ℕ) (n : List ℕ) (k : ChannelIn) (ks : List ChannelIn) → c ≡ length ks → clashes_in p c n (k ∷ ks) ≡ (any (is_of p) k.ports || any (is_called p n) (ports_in ks))
 in_channel p c n k ks e =
-    ap₂ ◌||◌ (ap (λ b. any (clashes_with p b n) k.ports) (eq-eqb c (length ks) e) ∙ any_same (clashes_with p true n) (is_of p) (λ q. and_yes (eqb p q.partition)) k.ports) (in_others p c n ks (omega arith))
+    ap₂ ◌||◌ (ap (λ b. any (clashes_with p b n) k.ports) (eq-eqb c (length ks) e) ∙ any_same (clashes_with p true n) (is_of p) (λ q. and-true (eqb p q.partition)) k.ports) (in_others p c n ks (omega arith))
 
 direction_is : (qs : List PortIn) (k : ℕ) → k ≡ length qs → cond (eqb k 0) Source Destination ≡ direction_after qs
 direction_is [] k e = cond-true (eqb k 0) Source Destination (eq-eqb k 0 e)
