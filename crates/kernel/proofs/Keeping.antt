@@ -1,8 +1,7 @@
 -- What the machine keeps, the run keeps.
 use Rattle.std.proofs.Common.{◌≡◌, ℕ, Bool, true, false, cond, List, [], ◌∷◌, sym, refl, ap, ◌∙◌, subst, ap₂}
 use Rattle.vector.specs.declared.tables.Tables.{Tables}
-use Rattle.vector.specs.declared.tables.ChannelKind.{ChannelKind}
-use Rattle.vector.specs.declared.tables.ChannelKind.TheVariants.{Sampling, Queuing}
+use Rattle.vector.specs.declared.tables.ChannelKind.TheVariants.{Queuing}
 use Rattle.vector.specs.declared.tables.Direction.{Direction}
 use Rattle.vector.specs.declared.tables.Direction.TheVariants.{Source, Destination}
 use Rattle.vector.specs.Fair.{Fair}
@@ -10,12 +9,13 @@ use Rattle.vector.specs.Laws as vector
 use Rattle.vector.specs.Sound.{Sound}
 use Rattle.machine.specs.declared.event.Event.{Event}
 use Rattle.machine.specs.declared.answer.Reply.{Reply}
-use Rattle.machine.specs.Questions.{is_source, same_kind}
+use Rattle.machine.specs.Questions.{is_source}
 use Rattle.machine.specs.State.{Core, State, area}
 use Rattle.machine.specs.Step.{step, boot}
 use Rattle.machine.specs.Runs.{Line, after, lines}
 use Rattle.machine.specs.Isolation as machine
 use Rattle.machine.specs.Isolation.{kept, is_of, Sight, sight, sights, Sheet, sheet, answers_to}
+use Rattle.machine.proofs.Names.{kinds}
 use Rattle.machine.proofs.Theorem.{isolated}
 use Rattle.machine.specs.Laws.{Steady}
 use Rattle.machine.proofs.Integrity.{integral, preserved}
@@ -34,15 +34,11 @@ destination : (d : Direction) → is_source d ≡ false → d ≡ Destination
 destination Source e = cc
 destination Destination e = refl
 
-queuing : (c : ChannelKind) → same_kind c Queuing ≡ true → c ≡ Queuing
-queuing Sampling e = cc
-queuing Queuing e = refl
-
 -- what the vector says of its ports is what isolation asks
 fair : (k : Tables) → Fair k → machine.Fair k
 fair k f = (
   (λ i j a b e s t. f.2 i j (a, b, e) (source _ s) (source _ t)),
-  (λ i j a b e q s t. f.3 i j (a, b, e) (queuing _ q) (destination _ s) (destination _ t)),
+  (λ i j a b e q s t. f.3 i j (a, b, e) (kinds _ Queuing q) (destination _ s) (destination _ t)),
 )
 
 picked_all : (p : ℕ) (k : Tables) (h : List Event) (s : State) → picked k p (lines k s h) ≡ answers_to p k s h

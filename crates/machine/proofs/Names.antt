@@ -19,7 +19,7 @@ none-not i e = cc
 pub some_inj : (i j : ℕ) → ◌≡◌ {A = Option ℕ} (Some i) (Some j) → i ≡ j
 some_inj i j e = cc
 
-kinds : (c t : ChannelKind) → same_kind c t ≡ true → c ≡ t
+pub kinds : (c t : ChannelKind) → same_kind c t ≡ true → c ≡ t
 kinds Sampling Sampling e = refl
 kinds Sampling Queuing e = absurd (both_ways false refl e)
 kinds Queuing Sampling e = absurd (both_ways false refl e)

@@ -12,6 +12,7 @@ use Rattle.machine.specs.Step.{turn, running}
 use Rattle.machine.specs.Laws.{Single, Scheduled, PlansThere, Served}
 use Rattle.machine.specs.Searches.{Apart}
 use Rattle.machine.proofs.Slots.{held}
+use Rattle.machine.proofs.Names.{some_inj}
 
 named : (o : Option ℕ) (q : ℕ) → names o q ≡ true → o ≡ Some q
 named None q h = absurd (both_ways false refl h)
@@ -30,11 +31,8 @@ scheduled k x q h =
     let s = named _ q v.0 in
     record { there = u.0; ready = ready _ v.1; slot = s; runs = (held (plan k x.clock.plan) (x.clock.time - x.clock.start)).found q s }
 
-some_same : (q r : ℕ) → ◌≡◌ {A = Option ℕ} (Some q) (Some r) → q ≡ r
-some_same q r e = cc
-
 pub single : (k : Tables) (x : Core) → Single k x
-single k x q r g h = some_same q r (sym (scheduled k x q g).slot ∙ (scheduled k x r h).slot)
+single k x q r g h = some_inj q r (sym (scheduled k x q g).slot ∙ (scheduled k x r h).slot)
 
 -- slots do not overlap
 pub apart : (k : Tables) (i : ℕ) → Lawful k → i < k.plans.count → Apart (plan k i)
