@@ -3,7 +3,7 @@ use Rattle.std.specs.Prelude.{ℕ, List}
 use Rattle.vector.specs.declared.tables.Tables.{Tables}
 use Rattle.machine.specs.declared.event.Event.{Event}
 use Rattle.machine.specs.declared.answer.Reply.{Reply}
-use Rattle.machine.specs.State.{State, Out, Result, settle, area}
+use Rattle.machine.specs.State.{State, Out, Stepped, settle, area}
 use Rattle.machine.specs.State.{Core as Machine}
 use Rattle.machine.specs.Management.{Call}
 use Rattle.machine.specs.Step.{step, boot}
@@ -18,7 +18,7 @@ pub record World : Type 0 where
 -- a world and an answer
 pub record Moved : Type 0 where
   pub tables : Tables
-  pub result : Result
+  pub result : Stepped
 
 abbrev pub core_of : Core → Machine
 core_of x = record { clock = x.clock; halted = x.halted; parts = x.parts; chans = x.channels; log = x.log }

@@ -36,7 +36,7 @@ pub record Out : Type 0 where
   pub effect : Effect
   pub reply : Reply
 
-pub record Result : Type 0 where
+pub record Stepped : Type 0 where
   pub state : State
   pub reply : Reply
 
@@ -104,5 +104,5 @@ applied (clears t) q ms = wiped t ms
 applied (clears_all n) q ms = wiped_all n ms
 
 -- the one place where areas are written: the outcome of an event of partition q
-abbrev pub settle : State → ℕ → Out → Result
+abbrev pub settle : State → ℕ → Out → Stepped
 settle s q o = record { state = record { core = o.core; areas = applied o.effect q s.areas }; reply = o.reply }

@@ -6,7 +6,7 @@ use Rattle.machine.specs.declared.event.Event.TheVariants.{Tick, Call, Load, Sto
 use Rattle.machine.specs.declared.answer.Refusal.TheVariants.{InvalidParam, OpNotAllowed, NotOnProcessor, SystemHalted}
 use Rattle.machine.specs.Partitions.{nobody, fresh, is_ready}
 use Rattle.machine.specs.Questions.{exists, row, plan, slots_of, holder, names}
-use Rattle.machine.specs.State.{Core, State, writes, Out, Result, answered, done, refused, guard, with_parts, with_clock, area, settle}
+use Rattle.machine.specs.State.{Core, State, writes, Out, Stepped, answered, done, refused, guard, with_parts, with_clock, area, settle}
 use Rattle.machine.specs.Answers.{reply}
 use Rattle.machine.specs.Time.{Timed, timed, clock_of, micros}
 use Rattle.machine.specs.Faults.{faulted, strayed, is_systems, system_faulted}
@@ -75,7 +75,7 @@ author (Line l) = 0
 author (SystemFault e) = 0
 
 -- a halted system refuses every event
-abbrev pub step : Tables → State → Event → Result
+abbrev pub step : Tables → State → Event → Stepped
 step k s e = settle s (author e) (guard s.core.halted (refused s.core SystemHalted) (outcome k s e))
 
 -- the first n partitions' areas have the vector's sizes

@@ -10,7 +10,7 @@ use Rattle.vector.specs.Sofars.{nothing}
 use Rattle.vector.specs.Turns.{in_turn, settled}
 use Rattle.vector.specs.Joins.{joined}
 use Rattle.vector.specs.Rooms.{Room}
-use Rattle.vector.specs.Reading.{scan, heard, followed, reading}
+use Rattle.vector.specs.Reading.{read_on, heard, followed, reading}
 use Rattle.vector.specs.declared.record.Kind.{Kind}
 use Rattle.vector.specs.declared.sofar.Sofar.{Sofar}
 use Rattle.vector.specs.declared.tables.Channel.{Channel}
@@ -31,7 +31,7 @@ pub room-nothing : Room nothing
 room-nothing = (((omega arith, omega arith), λ e. (refl, refl)), (omega arith, omega arith), (omega arith, λ i. all_alike (λ (c : Channel). c.ports ≤ 0) 8 i (channel_with Sampling 0 0) channel0 (omega arith) (omega arith)))
 
 module _ (P : Sofar → Type 0) (each : Kept P) where
-  scanned : (k at : ℕ) (s t : Sofar) (bs : List ℕ) → Room s → P s → scan k at s bs ≡ fine t → (Room t × P t) × (settled t ≡ true)
+  scanned : (k at : ℕ) (s t : Sofar) (bs : List ℕ) → Room s → P s → read_on k at s bs ≡ fine t → (Room t × P t) × (settled t ≡ true)
   unfolding Kept
   scanned k at s t [] r h e =
       let c = cond-fine (settled s) (fine s) (owed at) t e in
@@ -39,10 +39,10 @@ module _ (P : Sofar → Type 0) (each : Kept P) where
       subst (λ (u : Sofar). (Room u × P u) × (settled u ≡ true)) q ((r, h), c.0)
   scanned (suc k) at s t (b ∷ bs) r h e = scanned k at s t bs r h e
   scanned zero at s t (b ∷ bs) r h e =
-      let f = then-fine (framed at (b ∷ bs)) (λ f. then (followed at s f.kind f.body) (λ u. scan (3 + length f.body) (at + (4 + length f.body)) u bs)) t e in
+      let f = then-fine (framed at (b ∷ bs)) (λ f. then (followed at s f.kind f.body) (λ u. read_on (3 + length f.body) (at + (4 + length f.body)) u bs)) t e in
       let k = f.0.kind in
       let d = f.0.body in
-      let g = then-fine (followed at s k d) (λ u. scan (3 + length d) (at + (4 + length d)) u bs) t f.2 in
+      let g = then-fine (followed at s k d) (λ u. read_on (3 + length d) (at + (4 + length d)) u bs) t f.2 in
       let x = then-fine (heard at s k d) (joined at s) g.0 g.1 in
       let w = was_told at s k d x.0 (cut_off at (b ∷ bs) f.0 f.1).suited x.1 in
       let j = joined-fine at s g.0 x.0 x.2 in

@@ -7,7 +7,7 @@ use Rattle.vector.specs.Config.{PartitionIn, PlanIn, PortIn, ChannelIn, LinkIn, 
 use Rattle.vector.specs.Encoding.{bytes_of}
 use Rattle.vector.specs.Out.{Out, fine, bad}
 use Rattle.vector.specs.Ranges.{In, kind_said, Ranged}
-use Rattle.vector.specs.Reading.{scan, reading, verdict_of, taken, refused, takes}
+use Rattle.vector.specs.Reading.{read_on, reading, verdict_of, taken, refused, takes}
 use Rattle.vector.specs.Reasons.{owed}
 use Rattle.vector.specs.Rooms.{Room}
 use Rattle.vector.specs.Sofars.{nothing}
@@ -31,7 +31,7 @@ record Reach (g : Config) : Type 0 where
   room : Room sofar
   fit : Fit sofar
   seen : Seen g sofar
-  scans : (rest : List ℕ) → scan 0 0 nothing (encode g ++ rest) ≡ scan 0 (length (encode g)) sofar rest
+  scans : (rest : List ℕ) → read_on 0 0 nothing (encode g ++ rest) ≡ read_on 0 (length (encode g)) sofar rest
 
 -- one record more
 reach : (g g' : Config) (x : Said) (r : Reach g) → follows (kind_said x) (Some (last_kind g)) ≡ true → ready (kind_said x) r.sofar ≡ true → Ranged r.sofar.partitions (next_direction r.sofar.tables) x → Related r.sofar x →
@@ -45,11 +45,11 @@ reach g g' x r f y w j seen e =
       fit = fit_on s (kind_said x) x r.room t (refl, w) j r.fit;
       seen = seen;
       scans = λ rest.
-          ap (λ (l : List ℕ). scan 0 0 nothing (l ++ rest)) e
-          ∙ (ap (scan 0 0 nothing) (append_assoc (encode g) (bytes_of x) rest)
+          ap (λ (l : List ℕ). read_on 0 0 nothing (l ++ rest)) e
+          ∙ (ap (read_on 0 0 nothing) (append_assoc (encode g) (bytes_of x) rest)
           ∙ (r.scans (bytes_of x ++ rest)
           ∙ (scan-over s (length (encode g)) x rest r.room.0.0.0 t w j
-          ∙ ap (λ k. scan 0 k (after s x) rest) (sym (ap length e ∙ length-append (encode g) (bytes_of x))))));
+          ∙ ap (λ k. read_on 0 k (after s x) rest) (sym (ap length e ∙ length-append (encode g) (bytes_of x))))));
     }
 
 -- which kind may follow the last record

@@ -11,7 +11,7 @@ use Rattle.vector.specs.Frames.{word16, suits, kind_of, Framed, framed}
 use Rattle.vector.specs.Bodies.{Said, NameAt, header, partition, plan, slot, channel, port, ipvi, line, action, next_direction, said_by}
 use Rattle.vector.specs.Ranges.{kind_said, In, Mask, EventIn, Allows, Ranged}
 use Rattle.vector.specs.Turns.{kind_number, in_turn}
-use Rattle.vector.specs.Reading.{scan, heard}
+use Rattle.vector.specs.Reading.{read_on, heard}
 use Rattle.vector.specs.Points.{Point, step_over}
 use Rattle.vector.specs.declared.record.Kind.{Kind}
 use Rattle.vector.specs.declared.record.Kind.TheVariants.{Header, Partition, Plan, Slot, Channel, Port, Ipvi, Line, Action}
@@ -191,7 +191,7 @@ spot_related s at (action c e a l) r = r
 
 -- a record that keeps the rules is read, and the scan goes on behind it
 pub scan-over : (s : Sofar) (at : ℕ) (x : Said) (rest : List ℕ) → s.partitions ≤ 8 → in_turn (kind_said x) s ≡ true → Ranged s.partitions (next_direction s.tables) x → Related s x →
-    scan 0 at s (bytes_of x ++ rest) ≡ scan 0 (at + length (bytes_of x)) (after s x) rest
+    read_on 0 at s (bytes_of x ++ rest) ≡ read_on 0 (at + length (bytes_of x)) (after s x) rest
 scan-over s at x rest few t r j =
     let p : Point = record { at = at; sofar = s; rest = bytes_of x ++ rest } in
     let f : Framed = record { kind = kind_said x; body = body_of x; rest = rest } in
@@ -199,4 +199,4 @@ scan-over s at x rest few t r j =
     let hears : heard at s (kind_said x) (body_of x) ≡ fine y = passes _ (cond-true (in_turn (kind_said x) s) (fine tt) (bad (out_of_turn at)) t) ∙ says s (at + 4) few x r in
     let w : Stepped p (step_over at f y (after s y)) =
     record { front = f; said = y; sofar = after s y; cut = cuts at x rest (suited s.partitions (next_direction s.tables) x r); hears = hears; joins = fine-joined at s y (spot_related s (at + 4) x j); is = refl } in
-    sym (scan_step p (step_over at f y (after s y)) (omega arith) w) ∙ ap₂ (λ k (u : Sofar). scan 0 k u rest) (omega arith) (spot-after s (at + 4) x)
+    sym (scan_step p (step_over at f y (after s y)) (omega arith) w) ∙ ap₂ (λ k (u : Sofar). read_on 0 k u rest) (omega arith) (spot-after s (at + 4) x)

@@ -7,13 +7,13 @@ use Rattle.vector.specs.Frames.{Framed, framed}
 use Rattle.vector.specs.Bodies.{Said}
 use Rattle.vector.specs.Turns.{settled, ending}
 use Rattle.vector.specs.Joins.{joined}
-use Rattle.vector.specs.Reading.{scan, heard, reading, gathered}
+use Rattle.vector.specs.Reading.{read_on, heard, reading, gathered}
 use Rattle.vector.specs.Points.{Point, Shown, Step, step_over, step, next, shown, moved}
 use Rattle.vector.specs.declared.sofar.Sofar.{Sofar}
 use Rattle.vector.proofs.Outs.{then-fine, pass-fine, cond-fine, then-bad, pass-bad}
 use Rattle.vector.proofs.Cuts.{cut_off}
 
-skipped : (k at : ℕ) (s : Sofar) (bs : List ℕ) → scan k at s bs ≡ scan 0 at s (drop k bs)
+skipped : (k at : ℕ) (s : Sofar) (bs : List ℕ) → read_on k at s bs ≡ read_on 0 at s (drop k bs)
 skipped zero at s bs = refl
 skipped (suc k) at s [] = refl
 skipped (suc k) at s (b ∷ bs) = skipped k at s bs
@@ -41,18 +41,18 @@ stepped p x e =
     record { front = f.0; said = y.0; sofar = t.0; cut = f.1; hears = y.1; joins = t.1; is = let q : step_over at f.0 y.0 t.0 ≡ x = cc in q }
 
 abbrev pub scan_from : Point → Out Sofar
-scan_from p = scan 0 p.at p.sofar p.rest
+scan_from p = read_on 0 p.at p.sofar p.rest
 
 -- the scan goes on from where a step leads
 pub scan_step : (p : Point) (x : Step) → 0 < length p.rest → Stepped p x → scan_from x.point ≡ scan_from p
 scan_step p x h w = subst (λ (y : Step). scan_from y.point ≡ scan_from p) w.is (over p.rest h w.cut)
   where
-    over : (bs : List ℕ) → 0 < length bs → framed p.at bs ≡ fine w.front → scan 0 (p.at + (4 + length w.front.body)) w.sofar w.front.rest ≡ scan 0 p.at p.sofar bs
+    over : (bs : List ℕ) → 0 < length bs → framed p.at bs ≡ fine w.front → read_on 0 (p.at + (4 + length w.front.body)) w.sofar w.front.rest ≡ read_on 0 p.at p.sofar bs
     over [] h e = absurd (omega arith)
     over (b ∷ bs) h e =
         let r = (cut_off p.at (b ∷ bs) w.front e).rest in
         sym (rw (e, w.hears, w.joins) (skipped (3 + length w.front.body) (p.at + (4 + length w.front.body)) w.sofar bs
-        ∙ ap (scan 0 (p.at + (4 + length w.front.body)) w.sofar) (sym (r ∙ drop_more (length w.front.body) b bs))))
+        ∙ ap (read_on 0 (p.at + (4 + length w.front.body)) w.sofar) (sym (r ∙ drop_more (length w.front.body) b bs))))
 
 -- and fewer bytes are left
 fewer : (p : Point) (x : Step) → Stepped p x → length x.point.rest < length p.rest
@@ -80,7 +80,7 @@ module _ (at : ℕ) (s : Sofar) where
   next_cons : (b : ℕ) (bs : List ℕ) → next (record { at = at; sofar = s; rest = b ∷ bs }) ≡ then (step (record { at = at; sofar = s; rest = b ∷ bs })) (λ x. fine (Some x))
   next_cons b bs = cond-false (eqb (length (b ∷ bs)) 0) _ _ (ne_eqb (length (b ∷ bs)) 0 (λ e. omega arith))
 
-  next-some : (bs : List ℕ) (x : Step) → next (record { at = at; sofar = s; rest = bs }) ≡ fine (Some x) → (scan_from x.point ≡ scan 0 at s bs) × (length x.point.rest < length bs)
+  next-some : (bs : List ℕ) (x : Step) → next (record { at = at; sofar = s; rest = bs }) ≡ fine (Some x) → (scan_from x.point ≡ read_on 0 at s bs) × (length x.point.rest < length bs)
   next-some [] x e = absurd (let p = pass-fine (ending at s) (fine None) (Some x) e in cc)
   next-some (b ∷ bs) x e =
       let p : Point = record { at = at; sofar = s; rest = b ∷ bs } in
@@ -89,14 +89,14 @@ module _ (at : ℕ) (s : Sofar) where
       let w = subst (Stepped p) q (stepped p y.0 y.1) in
       (scan_step p x (omega arith) w, fewer p x w)
 
-  next-none : (bs : List ℕ) → next (record { at = at; sofar = s; rest = bs }) ≡ fine None → scan 0 at s bs ≡ fine s
+  next-none : (bs : List ℕ) → next (record { at = at; sofar = s; rest = bs }) ≡ fine None → read_on 0 at s bs ≡ fine s
   next-none [] e =
       let p = pass-fine (ending at s) (fine None) None e in
       let c = cond-fine (settled s) (fine s) (owed at) p.0 p.1 in
       p.1 ∙ sym c.1
   next-none (b ∷ bs) e = absurd (let y = then-fine (step (record { at = at; sofar = s; rest = b ∷ bs })) (λ x. fine (Some x)) None (sym (next_cons b bs) ∙ e) in cc)
 
-  scan-bad : (b : ℕ) (bs : List ℕ) (r : Reason) → step (record { at = at; sofar = s; rest = b ∷ bs }) ≡ bad r → scan 0 at s (b ∷ bs) ≡ bad r
+  scan-bad : (b : ℕ) (bs : List ℕ) (r : Reason) → step (record { at = at; sofar = s; rest = b ∷ bs }) ≡ bad r → read_on 0 at s (b ∷ bs) ≡ bad r
   scan-bad b bs r e =
       elim (then-bad (framed at (b ∷ bs)) (λ f. then (heard at s f.kind f.body) (λ y. then (joined at s y) (λ t. fine (step_over at f y t)))) r e) [
         | inl z ↦ rw z
@@ -109,7 +109,7 @@ module _ (at : ℕ) (s : Sofar) where
         ]
       ]
 
-  next-bad : (bs : List ℕ) (r : Reason) → next (record { at = at; sofar = s; rest = bs }) ≡ bad r → scan 0 at s bs ≡ bad r
+  next-bad : (bs : List ℕ) (r : Reason) → next (record { at = at; sofar = s; rest = bs }) ≡ bad r → read_on 0 at s bs ≡ bad r
   next-bad [] r e = pass-bad (ending at s) None r e
   next-bad (b ∷ bs) r e =
       elim (then-bad (step (record { at = at; sofar = s; rest = b ∷ bs })) (λ x. fine (Some x)) r (sym (next_cons b bs) ∙ e)) [

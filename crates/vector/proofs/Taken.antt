@@ -11,7 +11,7 @@ use Rattle.vector.specs.Frames.{framed}
 use Rattle.vector.specs.Joins.{joined}
 use Rattle.vector.specs.Out.{fine, then}
 use Rattle.vector.specs.Ranges.{kind_said, Ranged}
-use Rattle.vector.specs.Reading.{scan, heard, followed, takes}
+use Rattle.vector.specs.Reading.{read_on, heard, followed, takes}
 use Rattle.vector.specs.Reasons.{owed}
 use Rattle.vector.specs.Rooms.{Room}
 use Rattle.vector.specs.Rows.{row_of, no_name}
@@ -89,7 +89,7 @@ record_more pre s k x room fit i t j (inr f) =
     let m = grow f.0 s k x f.1.0 room fit i t j in
     inr (m.config, (m.grown, m.bytes ∙ ap (λ (l : List ℕ). l ++ bytes_of x) f.1.1))
 
-consumed : (k at : ℕ) (s t : Sofar) (bs pre : List ℕ) → Room s → Fit s → Bytes bs → Consumed pre s → scan k at s bs ≡ fine t → Consumed (pre ++ drop k bs) t × ((Room t × Fit t) × (settled t ≡ true))
+consumed : (k at : ℕ) (s t : Sofar) (bs pre : List ℕ) → Room s → Fit s → Bytes bs → Consumed pre s → read_on k at s bs ≡ fine t → Consumed (pre ++ drop k bs) t × ((Room t × Fit t) × (settled t ≡ true))
 consumed k at s t [] pre room fit y c e =
     let z = cond-fine (settled s) (fine s) (owed at) t e in
     let q : s ≡ t = cc in
@@ -97,10 +97,10 @@ consumed k at s t [] pre room fit y c e =
     subst (λ (u : Sofar). Consumed (pre ++ drop k []) u × ((Room u × Fit u) × (settled u ≡ true))) q (subst (λ (l : List ℕ). Consumed l s) (sym n) c, ((room, fit), z.0))
 consumed (suc k) at s t (b ∷ bs) pre room fit y c e = consumed k at s t bs pre room fit (λ i. y (suc i)) c e
 consumed zero at s t (b ∷ bs) pre room fit y c e =
-    let f = then-fine (framed at (b ∷ bs)) (λ f. then (followed at s f.kind f.body) (λ u. scan (3 + length f.body) (at + (4 + length f.body)) u bs)) t e in
+    let f = then-fine (framed at (b ∷ bs)) (λ f. then (followed at s f.kind f.body) (λ u. read_on (3 + length f.body) (at + (4 + length f.body)) u bs)) t e in
     let k = f.0.kind in
     let d = f.0.body in
-    let g = then-fine (followed at s k d) (λ u. scan (3 + length d) (at + (4 + length d)) u bs) t f.2 in
+    let g = then-fine (followed at s k d) (λ u. read_on (3 + length d) (at + (4 + length d)) u bs) t f.2 in
     let x = then-fine (heard at s k d) (joined at s) g.0 g.1 in
     let o = cut_off at (b ∷ bs) f.0 f.1 in
     let w = was_told at s k d x.0 o.suited x.1 in

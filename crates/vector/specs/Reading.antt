@@ -21,17 +21,17 @@ abbrev pub followed : ℕ → Sofar → Kind → List ℕ → Out Sofar
 followed at s k body = then (heard at s k body) (joined at s)
 
 -- over the bytes, of which the next `skip` belong to a record that was read; `at` is the next record's place
-abbrev pub scan : ℕ → ℕ → Sofar → List ℕ → Out Sofar
-scan skip at s [] = ending at s
-scan (suc k) at s (b ∷ bs) = scan k at s bs
-scan zero at s (b ∷ bs) =
+abbrev pub read_on : ℕ → ℕ → Sofar → List ℕ → Out Sofar
+read_on skip at s [] = ending at s
+read_on (suc k) at s (b ∷ bs) = read_on k at s bs
+read_on zero at s (b ∷ bs) =
     then (framed at (b ∷ bs)) (λ f.
     then (followed at s f.kind f.body) (λ t.
-    scan (3 + length f.body) (at + (4 + length f.body)) t bs))
+    read_on (3 + length f.body) (at + (4 + length f.body)) t bs))
 
 -- what a vector says, or the first refusal
 abbrev pub reading : List ℕ → Out Sofar
-reading bs = scan 0 0 nothing bs
+reading bs = read_on 0 0 nothing bs
 
 abbrev pub gathered : List ℕ → Out Tables
 gathered bs = then (reading bs) (λ s. fine s.tables)
