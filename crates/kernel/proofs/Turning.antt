@@ -49,11 +49,7 @@ module _ (o u : ℕ) where
       ]
 
   same_after : (x e : ℕ) → (o < e → e < u → ⊥) → o ≤ x → x < u → ltb x e ≡ ltb o e
-  same_after x e h l m =
-      elim (cases_lt o e) [
-        | inl p ↦ elim (cases_lt x e) [ inl q ↦ grind (arith, nat_tests) | inr q ↦ absurd (h p (omega arith)) ]
-        | inr p ↦ grind (arith, nat_tests)
-      ]
+  same_after x e h l m = grind (arith, nat_tests, same_before x e h l m)
 
   same-holder : (ss : List Slot) (x : ℕ) → Calm ss o u → o ≤ x → x < u → holder ss x ≡ holder ss o
   unfolding holder
