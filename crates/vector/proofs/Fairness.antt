@@ -1,7 +1,7 @@
 -- What the core rests on follows from the laws of a taken vector.
-use Rattle.std.proofs.Common.{◌≡◌, ℕ, zero, suc, ◌<◌, ◌≤◌, true, cond, eqb, List, [], ◌∷◌, length, get_or, take, Ok, sym, ap, ◌∙◌, subst, ⊎_elim, arith}
+use Rattle.std.proofs.Common.{◌≡◌, ℕ, zero, suc, ◌<◌, ◌≤◌, true, cond, eqb, List, [], ◌∷◌, length, get_or, take, Ok, sym, ap, ◌∙◌, subst, inl, inr, arith}
 use Rattle.std.proofs.lemmas.List.{get_or-take, length-take}
-use Rattle.std.proofs.lemmas.Bool.{cases_lt, cond-true, eq-eqb}
+use Rattle.std.proofs.lemmas.Bool.{cases_order, cond-true, eq-eqb}
 use Rattle.vector.specs.Blank.{port0}
 use Rattle.vector.specs.Fair.{AllWithin, Connected, OneSource, OneDestination, Fair}
 use Rattle.vector.specs.Joins.{is_queuing}
@@ -23,6 +23,10 @@ use Rattle.vector.proofs.Laws.{read-lawful, taken-read}
 
 not_both : (d : Direction) → d ≡ Source → d ≡ Destination → ⊥
 not_both d a b = cc
+
+-- of two that are not one, one comes first
+same : (i j : ℕ) → (i < j → ⊥) → (j < i → ⊥) → i ≡ j
+same i j f g = elim (cases_order i j) [ inl e ↦ e | inr o ↦ absurd (elim o [ inl h ↦ f h | inr h ↦ g h ]) ]
 
 -- a port of channel c at place i counts, and so do those before and after it
 module _ (c : ℕ) where
@@ -57,28 +61,16 @@ module _ (t : Tables) (l : Lawful t) (size : t.ports.count ≤ length t.ports.ro
 
   -- the later of two ports of one channel is no source
   one-source : OneSource t
-  one-source i j s a b =
-      ⊎_elim
-      (λ (h : i < j). absurd (not_both _ b (l.first i j h s.1 s.2).0))
-      (λ (h : j ≤ i).
-      ⊎_elim
-      (λ (m : j < i). absurd (not_both _ a (l.first j i m s.0 (sym s.2)).0))
-      (λ (m : i ≤ j). omega arith)
-      (cases_lt j i))
-      (cases_lt i j)
+  one-source i j s a b = same i j (λ h. not_both _ b (l.first i j h s.1 s.2).0) (λ h. not_both _ a (l.first j i h s.0 (sym s.2)).0)
 
   -- a source stands before every destination of its channel
   source-before : (i s : ℕ) → i < t.ports.count → s < t.ports.count → (laws.port_at i t).channel ≡ (laws.port_at s t).channel →
       (laws.port_at i t).direction ≡ Destination → (laws.port_at s t).direction ≡ Source → s < i
   source-before i s h k e a b =
-      ⊎_elim
-      (λ (m : s < i). m)
-      (λ (m : i ≤ s).
-      ⊎_elim
-      (λ (n : i < s). absurd (not_both _ b (l.first i s n k e).0))
-      (λ (n : s ≤ i). absurd (let z : i ≡ s = omega arith in not_both _ b (subst (λ n. (laws.port_at n t).direction ≡ Destination) z a)))
-      (cases_lt i s))
-      (cases_lt s i)
+      elim (cases_order i s) [
+        | inl z ↦ absurd (not_both _ b (subst (λ n. (laws.port_at n t).direction ≡ Destination) z a))
+        | inr o ↦ elim o [ inl m ↦ absurd (not_both _ b (l.first i s m k e).0) | inr m ↦ m ]
+      ]
 
   counted : (i : ℕ) → i < t.ports.count → (get_or (take t.ports.count t.ports.rows) i port0).channel ≡ (laws.port_at i t).channel
   counted i h = ap (λ (p : Port). p.channel) (get_or-take t.ports.count t.ports.rows i port0 h)
@@ -102,14 +94,8 @@ module _ (t : Tables) (l : Lawful t) (size : t.ports.count ≤ length t.ports.ro
 
   one-destination : OneDestination t
   one-destination i j s q a b =
-      ⊎_elim
-      (λ (h : i < j). absurd (not_after i j h s.1 s.2 (queues _ q) a))
-      (λ (h : j ≤ i).
-      ⊎_elim
-      (λ (m : j < i). absurd (not_after j i m s.0 (sym s.2) (subst (λ c. is_queuing (laws.channel_at c t).kind ≡ true) s.2 (queues _ q)) b))
-      (λ (m : i ≤ j). omega arith)
-      (cases_lt j i))
-      (cases_lt i j)
+      same i j (λ h. not_after i j h s.1 s.2 (queues _ q) a)
+      (λ h. not_after j i h s.0 (sym s.2) (subst (λ c. is_queuing (laws.channel_at c t).kind ≡ true) s.2 (queues _ q)) b)
 
   pub lawful-fair : Fair t
   lawful-fair = (within, connected, one-source, one-destination)
