@@ -73,38 +73,22 @@ module _ (k : Tables) (q : ℕ) where
   pub calm-ready : {p r : Partition} → There k q → Calm k q p → r.ports ≡ p.ports → r.status ≡ Ready → Calm k q r
   calm-ready t h e s = awake t h e (λ i. differ Ready Halted (λ n. omega arith) (sym s ∙ i)) (λ i. differ Ready Idle (λ n. omega arith) (sym s ∙ i))
 
+  -- nothing pending, no port open and not IDLE
+  bare : (s : Status) (m : ℕ) → let p : Partition = record { status = s; pending = 0; mask = m; ports = 0 } in
+      (s ≡ Idle → ⊥) → (Lawful k → exists k q ≡ false → q < 8 → p ≡ fresh) → Calm k q p
+  bare s m n a = record { none = λ e. refl; idle = λ e. absurd (n e); own = λ i o. absurd (both_ways _ (not_open i) o); absent = a }
+
   pub calm-fresh : Calm k q fresh
-  calm-fresh =
-      record {
-        none = λ e. refl;
-        idle = λ e. absurd (differ Ready Idle (λ n. omega arith) e);
-        own = λ i o. absurd (both_ways _ (not_open i) o);
-        absent = λ w e l. refl;
-      }
+  calm-fresh = bare Ready _ (differ Ready Idle (λ n. omega arith)) (λ w e l. refl)
 
   pub calm-nobody : 8 ≤ q → Calm k q nobody
-  calm-nobody h =
-      record {
-        none = λ e. refl;
-        idle = λ e. absurd (differ Halted Idle (λ n. omega arith) e);
-        own = λ i o. absurd (both_ways _ (not_open i) o);
-        absent = λ w e l. absurd (omega arith);
-      }
+  calm-nobody h = bare Halted 0 (differ Halted Idle (λ n. omega arith)) (λ w e l. absurd (omega arith))
 
   pub soothes_fresh : Soothes k q (λ _. fresh)
   soothes_fresh = record { calm = λ p h. calm-fresh }
 
   pub soothes_halted : There k q → Soothes k q halted
-  soothes_halted t =
-      record {
-        calm = λ p h.
-            record {
-              none = λ e. refl;
-              idle = λ e. absurd (differ Halted Idle (λ n. omega arith) e);
-              own = λ i o. absurd (both_ways _ (not_open i) o);
-              absent = λ w e l. gone t w e;
-            };
-      }
+  soothes_halted t = record { calm = λ p h. bare Halted _ (differ Halted Idle (λ n. omega arith)) (λ w e l. gone t w e) }
 
   pub soothes_suspended : There k q → Soothes k q suspended
   soothes_suspended t =
