@@ -1,5 +1,5 @@
 -- Which answer fits what was asked. Some answers have one code and one pair of values: their shapes tell them apart.
-use Rattle.std.specs.Prelude.{ℕ, ◌≡◌, ◌⊎◌, Result, Ok, Err, IfOk}
+use Rattle.std.specs.Prelude.{◌≡◌, ◌⊎◌, Result, Ok, Err, IfOk}
 use Rattle.vector.specs.declared.record.Scope.TheVariants.{System}
 use Rattle.vector.specs.declared.tables.Action.TheVariants.{Ignore}
 use Rattle.machine.specs.declared.partition.Status.TheVariants.{Ready}
