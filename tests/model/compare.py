@@ -30,14 +30,22 @@ MOST_REPORTED = 10
 
 
 def run_program(program: list[str], data: bytes) -> bytes:
-    """What the program prints for a script; a crash or a hang is shown as such."""
+    """What the program prints for a script; a crash, a hang and an end with an error are shown as such."""
     try:
         done = subprocess.run(program, input=data, capture_output=True, timeout=PATIENCE)
     except subprocess.TimeoutExpired:
         return b"(no end)\n"
     if done.returncode < 0:
         return done.stdout + b"(ended by signal %d)\n" % -done.returncode
+    if done.returncode > 0:
+        return done.stdout + b"(ended with status %d)\n" % done.returncode
     return done.stdout
+
+
+def notices_full_disk(program: list[str], data: bytes) -> bool:
+    """Whether the program ends with an error where nothing that it prints can be written."""
+    with open("/dev/full", "wb") as full:
+        return subprocess.run(program, input=data, stdout=full, stderr=subprocess.DEVNULL, timeout=PATIENCE).returncode > 0
 
 
 def first_difference(run: script.Run, expected: bytes, printed: bytes) -> str:
@@ -102,6 +110,13 @@ class Comparison:
             path.write_bytes(data)
             print(f"DIFFERS {path}: {first_difference(run, expected, printed)}")
 
+    def fill_the_disk(self, data: bytes) -> None:
+        if notices_full_disk(self.program, data):
+            self.passed += 1
+        else:
+            self.failed += 1
+            print("DIFFERS: with no room for its output the program ends as if all were well")
+
 
 def main() -> int:
     parser = argparse.ArgumentParser(description="Compares a program with the model.")
@@ -125,6 +140,7 @@ def main() -> int:
             break
         comparison.compare(name, data)
 
+    comparison.fill_the_disk(next(data for _, data in directed(limits)))
     missing = comparison.coverage.missing()
     print(comparison.coverage.report())
     for what in missing:
