@@ -9,6 +9,7 @@ use Rattle.vector.specs.Tables.{Plans}
 use Rattle.vector.specs.declared.tables.Plan.{Plan}
 use Rattle.vector.specs.declared.tables.Slot.{Slot}
 use Rattle.vector.specs.Blank.{slot0}
+use Rattle.vector.specs.Rows.{slot_end}
 use Rattle.machine.specs.declared.clock.Clock.{Clock}
 use Rattle.machine.specs.declared.partition.Partition.{Partition}
 use Rattle.vector.specs.Fair.{Within}
@@ -115,9 +116,6 @@ calm_passed ps k qs t u h f l m =
 abbrev pub turn_in : List Slot → ℕ → ℕ → Turn
 turn_in ss o u = record { holder = holder ss o; until = first_edge ss o u }
 
-abbrev pub end_of : Slot → ℕ
-end_of s = s.start + s.duration
-
 abbrev pub nth : List Slot → ℕ → Slot
 nth ss i = get_or ss i slot0
 
@@ -127,7 +125,7 @@ From b ss = (j : ℕ) → j < length ss → b ≤ (nth ss j).start
 
 -- no slot begins before those in front of it have ended, and none goes beyond f
 abbrev pub Ordered : ℕ → List Slot → Type 0
-Ordered f ss = ((i j : ℕ) → i < j → j < length ss → end_of (nth ss i) ≤ (nth ss j).start) × ((j : ℕ) → j < length ss → end_of (nth ss j) ≤ f)
+Ordered f ss = ((i j : ℕ) → i < j → j < length ss → slot_end (nth ss i) ≤ (nth ss j).start) × ((j : ℕ) → j < length ss → slot_end (nth ss j) ≤ f)
 
 -- before all slots nobody runs, and nothing changes before the first one
 none-later : (ss : List Slot) (o b : ℕ) → From b ss → o < b → holder ss o ≡ None
@@ -147,7 +145,7 @@ edge-later (s ∷ ss) o u b h l m =
 
 module _ (s : Slot) (ss : List Slot) (o f : ℕ) where
   -- in the gap before a slot
-  gap : From (end_of s) ss → end_of s ≤ f → o < s.start → turn_in (s ∷ ss) o f ≡ record { holder = None; until = s.start }
+  gap : From (slot_end s) ss → slot_end s ≤ f → o < s.start → turn_in (s ∷ ss) o f ≡ record { holder = None; until = s.start }
   unfolding holder first_edge
   gap h e l =
       let g : From s.start ss = λ j m. omega (arith, h j m) in
@@ -158,21 +156,21 @@ module _ (s : Slot) (ss : List Slot) (o f : ℕ) where
       (ap (first_edge ss o) b ∙ edge-later ss o s.start s.start g l (omega arith))
 
   -- in a slot
-  inside : From (end_of s) ss → end_of s ≤ f → s.start ≤ o → o < end_of s → turn_in (s ∷ ss) o f ≡ record { holder = Some s.partition; until = end_of s }
+  inside : From (slot_end s) ss → slot_end s ≤ f → s.start ≤ o → o < slot_end s → turn_in (s ∷ ss) o f ≡ record { holder = Some s.partition; until = slot_end s }
   unfolding holder first_edge
   inside h e l m =
       let c : covers s o ≡ true = grind (arith, nat_tests) in
-      let b : edge s o f ≡ end_of s = cond-false _ _ _ (le-ltb o s.start l) ∙ cond-true _ _ _ (lt-ltb o (end_of s) m) ∙ min-eq_right (omega arith) in
+      let b : edge s o f ≡ slot_end s = cond-false _ _ _ (le-ltb o s.start l) ∙ cond-true _ _ _ (lt-ltb o (slot_end s) m) ∙ min-eq_right (omega arith) in
       ap₂ (λ (p : Option ℕ) (u : ℕ). record { holder = p; until = u })
       (cond-true _ _ _ c)
-      (ap (first_edge ss o) b ∙ edge-later ss o (end_of s) (end_of s) h m (omega arith))
+      (ap (first_edge ss o) b ∙ edge-later ss o (slot_end s) (slot_end s) h m (omega arith))
 
   -- after it
-  passed : s.start ≤ o → end_of s ≤ o → turn_in (s ∷ ss) o f ≡ turn_in ss o f
+  passed : s.start ≤ o → slot_end s ≤ o → turn_in (s ∷ ss) o f ≡ turn_in ss o f
   unfolding holder first_edge
   passed l m =
       let c : covers s o ≡ false = grind (arith, nat_tests) in
-      let b : edge s o f ≡ f = cond-false _ _ _ (le-ltb o s.start l) ∙ cond-false _ _ _ (le-ltb o (end_of s) m) in
+      let b : edge s o f ≡ f = cond-false _ _ _ (le-ltb o s.start l) ∙ cond-false _ _ _ (le-ltb o (slot_end s) m) in
       ap₂ (λ (p : Option ℕ) (u : ℕ). record { holder = p; until = u }) (cond-false _ _ _ c) (ap (first_edge ss o) b)
 
 -- turns of the loop over the slots
@@ -180,16 +178,16 @@ module _ (ss : List Slot) (o f i : ℕ) (d : Ordered f ss) where
   split : i < length ss → turn_in (drop i ss) o f ≡ turn_in (nth ss i ∷ drop (i + 1) ss) o f
   split h = ap (λ xs. turn_in xs o f) (drop_more ss i slot0 h)
 
-  behind : i < length ss → From (end_of (nth ss i)) (drop (i + 1) ss)
+  behind : i < length ss → From (slot_end (nth ss i)) (drop (i + 1) ss)
   behind h j l = omega (arith, d.0 i (i + 1 + j) (omega arith) (omega (arith, l, length-drop (i + 1) ss)), ap (λ (s : Slot). s.start) (get_or-drop (i + 1) ss j slot0))
 
   pub before_slot : i < length ss → o < (nth ss i).start → turn_in (drop i ss) o f ≡ record { holder = None; until = (nth ss i).start }
   before_slot h l = split h ∙ gap (nth ss i) (drop (i + 1) ss) o f (behind h) (d.1 i h) l
 
-  pub in_slot : i < length ss → (nth ss i).start ≤ o → o < end_of (nth ss i) → turn_in (drop i ss) o f ≡ record { holder = Some (nth ss i).partition; until = end_of (nth ss i) }
+  pub in_slot : i < length ss → (nth ss i).start ≤ o → o < slot_end (nth ss i) → turn_in (drop i ss) o f ≡ record { holder = Some (nth ss i).partition; until = slot_end (nth ss i) }
   in_slot h l m = split h ∙ inside (nth ss i) (drop (i + 1) ss) o f (behind h) (d.1 i h) l m
 
-  pub after_slot : i < length ss → (nth ss i).start ≤ o → end_of (nth ss i) ≤ o → turn_in (drop i ss) o f ≡ turn_in (drop (i + 1) ss) o f
+  pub after_slot : i < length ss → (nth ss i).start ≤ o → slot_end (nth ss i) ≤ o → turn_in (drop i ss) o f ≡ turn_in (drop (i + 1) ss) o f
   after_slot h l m = split h ∙ passed (nth ss i) (drop (i + 1) ss) o f l m
 
   pub after_all : length ss ≤ i → turn_in (drop i ss) o f ≡ record { holder = None; until = f }
@@ -205,6 +203,6 @@ ordered p ss e a w =
       λ i j l m.
           let x = same i (omega arith) in
           let y = same j m in
-          omega (arith, a i j l y.0, ap end_of x.1, ap (λ (s : Slot). s.start) y.1),
-      λ j m. let y = same j m in omega (arith, w j y.0, ap end_of y.1),
+          omega (arith, a i j l y.0, ap slot_end x.1, ap (λ (s : Slot). s.start) y.1),
+      λ j m. let y = same j m in omega (arith, w j y.0, ap slot_end y.1),
     )

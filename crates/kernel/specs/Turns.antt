@@ -1,14 +1,15 @@
 -- For how long nothing changes on the processor: no slot starts or ends.
-use Rattle.std.specs.Prelude.{◌≡◌, ℕ, ◌+◌, ◌<◌, ◌≤◌, min, Bool, false, cond, ◌||◌, List, [], ◌∷◌, ◌==◌, nat_lt}
+use Rattle.std.specs.Prelude.{◌≡◌, ℕ, ◌<◌, ◌≤◌, min, Bool, false, cond, ◌||◌, List, [], ◌∷◌, ◌==◌, nat_lt}
 use Rattle.vector.specs.declared.tables.Plan.{Plan}
 use Rattle.vector.specs.declared.tables.Slot.{Slot}
+use Rattle.vector.specs.Rows.{slot_end}
 use Rattle.machine.specs.Questions.{slots_of, holder}
 use Rattle.kernel.specs.declared.turn.Turn.{Turn}
 
 -- does one of the slots start or end at this offset of the frame
 unfoldable pub edges : List Slot → ℕ → Bool
 edges [] x = false
-edges (s ∷ ss) x = (s.start == x || s.start + s.duration == x) || edges ss x
+edges (s ∷ ss) x = (s.start == x || slot_end s == x) || edges ss x
 
 -- after the offset o and before u none does
 abbrev pub Calm : List Slot → ℕ → ℕ → Type 0
@@ -16,7 +17,7 @@ Calm ss o u = (x : ℕ) → o < x → x < u → edges ss x ≡ false
 
 -- the first offset after o at which the slot starts or ends, where it is before u; else u
 abbrev pub edge : Slot → ℕ → ℕ → ℕ
-edge s o u = cond (nat_lt o s.start) (min u s.start) (cond (nat_lt o (s.start + s.duration)) (min u (s.start + s.duration)) u)
+edge s o u = cond (nat_lt o s.start) (min u s.start) (cond (nat_lt o (slot_end s)) (min u (slot_end s)) u)
 
 -- .. at which any slot does
 unfoldable pub first_edge : List Slot → ℕ → ℕ → ℕ
