@@ -1,25 +1,24 @@
-// The bytes of an outcome.
+// The bytes of a reply.
 ghost use Rattle.std.specs.Prelude.{◌≡◌, ◌+◌, ◌≤◌, length};
-ghost use Rattle.machine.specs.Answers.{reply_of};
 ghost use Rattle.entrance.specs.Encoding.{bytes_of, put};
 
-use machine::answer::{Outcome, Reply};
+use machine::answer::Reply;
 
 /// Code, a and b, four bytes each.
-fn encode(outcome: Outcome) -> [u8; 12]
-    ensures { result ≡ bytes_of (reply_of outcome) }
+fn encode(reply: Reply) -> [u8; 12]
+    ensures { result ≡ bytes_of reply }
 {
-    let Reply { code, a, b } = Reply::from(outcome);
+    let Reply { code, a, b } = reply;
     let [c0, c1, c2, c3] = code.to_le_bytes();
     let [a0, a1, a2, a3] = a.to_le_bytes();
     let [b0, b1, b2, b3] = b.to_le_bytes();
     [c0, c1, c2, c3, a0, a1, a2, a3, b0, b1, b2, b3]
 }
 
-/// Writes an outcome at a place.
-pub(crate) fn write_answer(outcome: Outcome, answers: &mut [u8], at: usize)
+/// Writes a reply at a place.
+pub(crate) fn write_reply(reply: Reply, answers: &mut [u8], at: usize)
     requires { at + 12 ≤ length answers.old }
-    ensures { answers.new ≡ put at (bytes_of (reply_of outcome)) answers.old }
+    ensures { answers.new ≡ put at (bytes_of reply) answers.old }
 {
-    answers[at..at + 12].copy_from_slice(&encode(outcome));
+    answers[at..at + 12].copy_from_slice(&encode(reply));
 }

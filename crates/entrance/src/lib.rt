@@ -8,10 +8,11 @@ ghost use Rattle.stage.specs.Layouts.{zeroed};
 ghost use Rattle.script.specs.Format.{events_of};
 ghost use Rattle.entrance.specs.Session.{events_in, read_of, room_in, ending, ending_of, records_end, written, reached};
 
-use crate::encoding::write_answer;
+use crate::encoding::write_reply;
 use crate::error::EntranceError;
 use board::Board;
 use kernel::System;
+use machine::answer::Reply;
 use script::next_event;
 use stage::fenced;
 use vector::check;
@@ -40,7 +41,8 @@ fn answer_all<B: Board>(
         }
         // Each answer's place is found by its number: std says nothing of a slice's bytes once its chunks were lent
         // (`chunks_exact_mut`), nor does a proof know them where a loop shortens the slice by `split_first_chunk_mut` (tried).
-        write_answer(system.event(cut.event), answers, 12 * count);
+        let reply = Reply::from(system.event(cut.event));
+        write_reply(reply, answers, 12 * count);
         count += 1;
         rest = cut.rest;
     }

@@ -112,6 +112,7 @@ impl<B: Board> System<B> {
     }
 
     /// Opens the port of q that has this type and the name in a range of its area.
+    #[inline(always)]
     pub(crate) fn create(&mut self, kind: ChannelKind, q: Guest, args: Args) -> Outcome
         ensures is { gives (world_of B.areas self.new) (reply_of result) ≡ performed (create_of kind) q args (world_of B.areas self.old) }
         ensures shaped { Shaped (Port 0) result }

@@ -23,7 +23,7 @@ pub loop-rest-preserved : goal.loop-rest-preserved
 loop-rest-preserved g c =
     let is : c.next_event.result ≡ Some c.in_ok-cut.cut = grind arith in
     let cut = rw is at c.next_event.ensures in
-    onward _ _ _ _ _ _ _ c.loop-rest.invariant _ _ _ _ _ (omega arith) (omega arith) c.loop-rest-test.ensures cut.0 cut.1 c.event.ensures.is c.write_answer.ensures
+    onward _ _ _ _ _ _ _ c.loop-rest.invariant _ _ _ _ _ (omega arith) (omega arith) c.loop-rest-test.ensures cut.0 cut.1 c.event.ensures.is (rw c.from-reply.ensures at c.write_reply.ensures)
 
 pub returns : goal.returns
 returns g c =

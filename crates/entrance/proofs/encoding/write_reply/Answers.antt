@@ -1,7 +1,7 @@
 use Rattle.std.proofs.Common.{◌∙◌}
 use native.Mathlib.Nat.{add-sub_cancel_left}
 use Rattle.entrance.proofs.Putting.{put-part}
-use Rattle.entrance.proofs.encoding.write_answer.Goals as goal
+use Rattle.entrance.proofs.encoding.write_reply.Goals as goal
 
 pub returns : goal.returns
 returns c = put-part c.args.at _ _ _ _ (add-sub_cancel_left c.args.at 12) (c.copy_from_slice.ensures.after ∙ c.encode.ensures)
