@@ -1,5 +1,5 @@
 -- A ring of cells, seen as the list of its entries.
-use Rattle.std.proofs.Common.{◌≡◌, ◌∙◌, Some, ℕ, ◌+◌, ◌-◌, ◌<◌, ◌≤◌, List, [], ◌∷◌, ◌++◌, length, get_or, set, sym, ap, arith}
+use Rattle.std.proofs.Common.{◌≡◌, ◌∙◌, Some, ℕ, ◌+◌, ◌-◌, ◌<◌, ◌≤◌, List, [], ◌∷◌, ◌++◌, length, get_or, set, sym, ap, ap₂, arith}
 use Rattle.std.proofs.lemmas.List.{places, same_lists, length-set, get_or-set_other}
 use Rattle.std.proofs.lemmas.Grind.{get_or-set_at}
 use Rattle.queue.specs.Ring.{entries, first, rest, next, spot}
@@ -30,3 +30,14 @@ module _ {X : Type 0} where
       entries (next h (length cells)) (n - 1) cells ≡ rest (entries h n cells)
   others_are h n [] l m r = absurd (omega arith)
   others_are h n (x ∷ cells) l m r = sym (ap rest (took_one h n (x ∷ cells) x l m r))
+
+  -- where all cells are taken, another entry in the oldest one's cell comes after the others
+  pub over_oldest : (h n : ℕ) (cells : List X) (x : X) → h < length cells → n ≡ length cells →
+      entries (next h (length cells)) n (set cells h x) ≡ rest (entries h n cells) ++ x ∷ []
+  over_oldest h n cells x l e =
+      let z = length cells in
+      let s : spot (next h z) (n - 1) z ≡ h = grind arith in
+      let b : next h z < z = grind arith in
+      ap₂ (λ i m. entries (next h z) m (set cells i x)) (sym s) (omega (arith, e, l))
+      ∙ put_at (next h z) (n - 1) cells x b (omega arith)
+      ∙ ap (λ es. es ++ x ∷ []) (others_are h n cells l (omega arith) (omega arith))

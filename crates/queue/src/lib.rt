@@ -97,9 +97,10 @@ impl<X: Copy, const N: usize> Queue<X, N> {
         ensures { self.new ≡ over N self.old x }
     {
         if self.is_full() {
-            self.drop_oldest();
+            self.replace_oldest(x);
+        } else {
+            self.put(x);
         }
-        self.put(x);
     }
 
     /// Whether every cell is taken.
@@ -120,6 +121,17 @@ impl<X: Copy, const N: usize> Queue<X, N> {
             self.head = after(self.head, N);
             self.count -= 1;
         }
+    }
+
+    /// The oldest of N entries gives way, and another comes last: it takes the same cell.
+    #[tactic(auto, using(crate::proofs::Rings::counted, crate::proofs::Rings::over_oldest))]
+    fn replace_oldest(&mut self, x: X)
+        requires some { 0 < N }
+        requires full { length self.old ≡ N }
+        ensures { self.new ≡ rest self.old ++ x ∷ [] }
+    {
+        self.cells[self.head] = x;
+        self.head = after(self.head, N);
     }
 
     /// One entry more, where there is room.
