@@ -38,7 +38,7 @@ no_fault : (k : Tables) (q : ℕ) (e : Event) → is_of k q e ≡ true → is_co
 no_fault k q (Tick t) h = refl
 no_fault k q (Call p n g) h = refl
 no_fault k q (Load p o) h = refl
-no_fault k q (Store p o v) h = refl
+no_fault k q (Store p v o) h = refl
 no_fault k q (Fault p e) h = refl
 no_fault k q (Line l) h = refl
 no_fault k q (SystemFault e) h = absurd (both_ways false refl h)

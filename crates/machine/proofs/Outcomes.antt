@@ -229,7 +229,7 @@ outcome_tame k s (Call q n g) =
     gate_tame k _ _ s.core q
     (called_tame k s.core n (area s.areas q) q g)
 outcome_tame k s (Load q o) = still_tame k _ s.core q (λ t _. let h = faulted_tame k false false s.core q 6 t in search tame)
-outcome_tame k s (Store q o v) = still_tame k _ s.core q (λ t _. let h = faulted_tame k false false s.core q 6 t in search tame)
+outcome_tame k s (Store q v o) = still_tame k _ s.core q (λ t _. let h = faulted_tame k false false s.core q 6 t in search tame)
 outcome_tame k s (Fault q e) = still_tame k _ s.core q (λ t _. search (tame, parts))
 outcome_tame k s (Line l) = let h = line_of_tame k false false s.core (owner k l) 0 (whose k (Line l)) l (owned k l) in search tame
 outcome_tame k s (SystemFault e) =

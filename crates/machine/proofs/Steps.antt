@@ -185,7 +185,7 @@ module _ (k : Tables) (M C : ℕ → Bool) (w : Sealed k M C) where
   step_steady (Load q o) s t m r =
       let h = acts (λ x a. load k x a q o) q (member k M q m) s t r (λ e a. access_matched k M C _ _ q o s.core t.core a r.core) in
       record { state = settled q q s t _ _ r h; reply = λ p n e. said p q h n e }
-  step_steady (Store q o v) s t m r =
+  step_steady (Store q v o) s t m r =
       let h = acts (λ x a. store k x a q o v) q (member k M q m) s t r (λ e a. access_matched k M C _ _ q o s.core t.core a r.core) in
       record { state = settled q q s t _ _ r h; reply = λ p n e. said p q h n e }
   step_steady (Fault q f) s t m r =
@@ -219,7 +219,7 @@ module _ (k : Tables) (M C : ℕ → Bool) (w : Sealed k M C) where
   step_quiet (Load q i) s h =
       let o = outsider k M q h in
       settled_quiet q s _ o.out (halting_quiet s _ (gate_quiet k M C q s.core _ (access_quiet k M C _ _ q i s.core (area s.areas q) o.out tt)))
-  step_quiet (Store q i v) s h =
+  step_quiet (Store q v i) s h =
       let o = outsider k M q h in
       settled_quiet q s _ o.out (halting_quiet s _ (gate_quiet k M C q s.core _ (access_quiet k M C _ _ q i s.core (area s.areas q) o.out tt)))
   step_quiet (Fault q f) s h =

@@ -23,7 +23,7 @@ abbrev pub is_cold_reset : Tables → Event → Bool
 is_cold_reset k (Tick t) = false
 is_cold_reset k (Call q n g) = is_system k q && is_cold n g
 is_cold_reset k (Load q o) = false
-is_cold_reset k (Store q o v) = false
+is_cold_reset k (Store q v o) = false
 is_cold_reset k (Fault q e) = false
 is_cold_reset k (Line l) = false
 is_cold_reset k (SystemFault e) = false
@@ -48,7 +48,7 @@ abbrev pub is_cold_fault : Tables → Event → Bool
 is_cold_fault k (Tick t) = false
 is_cold_fault k (Call q n g) = false
 is_cold_fault k (Load q o) = false
-is_cold_fault k (Store q o v) = false
+is_cold_fault k (Store q v o) = false
 is_cold_fault k (Fault q e) = false
 is_cold_fault k (Line l) = false
 is_cold_fault k (SystemFault e) = is_systems e && is_cold_action (system_response k e).action

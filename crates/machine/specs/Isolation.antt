@@ -37,7 +37,7 @@ abbrev pub whose : Tables → Event → Option ℕ
 whose k (Tick t) = None
 whose k (Call q n g) = existing k q
 whose k (Load q o) = existing k q
-whose k (Store q o v) = existing k q
+whose k (Store q v o) = existing k q
 whose k (Fault q e) = existing k q
 whose k (Line l) = cond (nat_lt l 16) (owner k l) None
 whose k (SystemFault e) = None

@@ -139,7 +139,7 @@ abbrev pub replans : Tables → State → Event → Bool
 replans k s (Tick t) = ends_within k.plans (t - s.core.clock.time) s.core.clock
 replans k s (Call q n g) = running k s.core q && (is_system k q && is_reset n g)
 replans k s (Load q o) = false
-replans k s (Store q o v) = false
+replans k s (Store q v o) = false
 replans k s (Fault q e) = false
 replans k s (Line l) = false
 replans k s (SystemFault e) = is_systems e && resets (system_response k e).action

@@ -65,7 +65,7 @@ abbrev pub Suits : Event → Result Answer Refusal → Type 0
 Suits (events.Tick t) r = Shaped Done r
 Suits (events.Call q n g) r = IfOk r (λ x. CallShaped (call_of n) r)
 Suits (events.Load q o) r = ShapedOrOutside (Byte 0) r
-Suits (events.Store q o v) r = ShapedOrOutside Done r
+Suits (events.Store q v o) r = ShapedOrOutside Done r
 Suits (events.Fault q e) r = Shaped (Responded Ignore) r
 Suits (events.Line n) r = Shaped Done r
 Suits (events.SystemFault e) r = Shaped (Responded Ignore) r

@@ -58,7 +58,7 @@ abbrev pub outcome : Tables → State → Event → Out
 outcome k s (Tick t) = tick k s.core t
 outcome k s (Call q n g) = gate k s.core q (called n k s.core (area s.areas q) q g)
 outcome k s (Load q o) = gate k s.core q (load k s.core (area s.areas q) q o)
-outcome k s (Store q o v) = gate k s.core q (store k s.core (area s.areas q) q o v)
+outcome k s (Store q v o) = gate k s.core q (store k s.core (area s.areas q) q o v)
 outcome k s (Fault q e) = gate k s.core q (fault k s.core q e)
 outcome k s (Line l) = line k s.core l
 outcome k s (SystemFault e) = system_fault k s.core e
@@ -69,7 +69,7 @@ abbrev pub author : Event → ℕ
 author (Tick t) = 0
 author (Call q n g) = q
 author (Load q o) = q
-author (Store q o v) = q
+author (Store q v o) = q
 author (Fault q e) = q
 author (Line l) = 0
 author (SystemFault e) = 0

@@ -24,10 +24,11 @@ pub enum Event {
         partition: u8,
         offset: u32,
     },
+    // The byte comes before the offset, so that in memory it shares a place with no word of a call.
     Store {
         partition: u8,
-        offset: u32,
         byte: u8,
+        offset: u32,
     },
     Fault {
         partition: u8,

@@ -47,12 +47,12 @@ body_length SystemFault = 1
 abbrev pub args_of : List ℕ → List ℕ
 args_of b = long_at b 0 ∷ long_at b 4 ∷ long_at b 8 ∷ long_at b 12 ∷ long_at b 16 ∷ []
 
--- the fields of a body, in their order
+-- the fields of a body; a store's byte comes last
 abbrev pub event_of : EventKind → List ℕ → Event
 event_of Tick b = events.Tick (long_at b 0)
 event_of Call b = events.Call (byte_at b 0) (byte_at b 1) (args_of (drop 2 b))
 event_of Load b = events.Load (byte_at b 0) (long_at b 1)
-event_of Store b = events.Store (byte_at b 0) (long_at b 1) (byte_at b 5)
+event_of Store b = events.Store (byte_at b 0) (byte_at b 5) (long_at b 1)
 event_of Fault b = events.Fault (byte_at b 0) (byte_at b 1)
 event_of Line b = events.Line (byte_at b 0)
 event_of SystemFault b = events.SystemFault (byte_at b 0)

@@ -1,7 +1,7 @@
-// The kinds of event records: the one place of their numbers and their body lengths.
+// The kinds of event records: the one place of their numbers.
 ghost use Rattle.std.specs.Prelude.{◌≡◌};
 ghost use Rattle.std.specs.Option.{ok_or};
-ghost use Rattle.script.specs.Format.{kind_of, body_length};
+ghost use Rattle.script.specs.Format.{kind_of};
 ghost use Rattle.script.specs.declared.error.ScriptError.TheVariants.{Malformed};
 
 use crate::error::ScriptError;
@@ -32,21 +32,6 @@ impl TryFrom<u16> for EventKind {
             37 => Ok(EventKind::Line),
             38 => Ok(EventKind::SystemFault),
             _ => Err(ScriptError::Malformed),
-        }
-    }
-}
-
-impl EventKind {
-    pub(crate) fn body_length(self) -> usize
-        ensures { result ≡ body_length self }
-    {
-        match self {
-            EventKind::Tick => 4,
-            EventKind::Call => 22,
-            EventKind::Load => 5,
-            EventKind::Store => 6,
-            EventKind::Fault => 2,
-            EventKind::Line | EventKind::SystemFault => 1,
         }
     }
 }

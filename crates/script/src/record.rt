@@ -19,11 +19,8 @@ pub fn next_event<'a>(bytes: &'a [u8]) -> Option<Cut<'a>>
 {
     let record = front(bytes)?;
     let kind = EventKind::try_from(record.kind).ok()?;
-    if record.body.len() != kind.body_length() {
-        return None;
-    }
     Some(Cut {
-        event: read_body(kind, record.body),
+        event: read_body(kind, record.body)?,
         rest: record.rest,
     })
 }

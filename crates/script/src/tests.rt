@@ -19,8 +19,8 @@ fn reads_events(rt: HostRuntime) -> Result<(), Fail> {
     };
     let Event::Store {
         partition,
-        offset,
         byte,
+        offset,
     } = script.history[1].event
     else {
         return Err(Fail::new("no store"));
