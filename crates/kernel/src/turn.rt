@@ -39,18 +39,20 @@ fn find(plan: &Plan, offset: Time) -> Turn
 {
     for slot in plan.slots.as_slice() {
         let end = slot.start + slot.duration;
-        if offset < slot.start {
-            return Turn {
+        if offset >= end {
+            continue;
+        }
+        return if offset < slot.start {
+            Turn {
                 holder: None,
                 until: slot.start,
-            };
-        }
-        if offset < end {
-            return Turn {
+            }
+        } else {
+            Turn {
                 holder: Some(slot.partition),
                 until: end,
-            };
-        }
+            }
+        };
     }
     Turn {
         holder: None,

@@ -10,8 +10,8 @@ returns-then-offset-slot c =
     let d = ordered c.args.plan.now c.as_slice-slot-items.result.now c.as_slice-slot-items.ensures.is c.requires.apart c.requires.within in
     sym (before_slot c.as_slice-slot-items.result.now c.args.offset c.args.plan.now.frame c.loop-slot.slot-index d c.loop-slot-test.true (omega arith)) ∙ c.loop-slot.invariant
 
-pub returns-then-offset-end : goal.returns-then-offset-end
-returns-then-offset-end c =
+pub returns-else-offset-slot : goal.returns-else-offset-slot
+returns-else-offset-slot c =
     let d = ordered c.args.plan.now c.as_slice-slot-items.result.now c.as_slice-slot-items.ensures.is c.requires.apart c.requires.within in
     sym (in_slot c.as_slice-slot-items.result.now c.args.offset c.args.plan.now.frame c.loop-slot.slot-index d c.loop-slot-test.true (omega arith) (omega arith)) ∙ c.loop-slot.invariant
 
