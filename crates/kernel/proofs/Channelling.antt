@@ -1,10 +1,10 @@
 -- A message sent into a channel.
-use Rattle.std.proofs.Common.{◌≡◌, ◌∙◌, ℕ, ◌+◌, ◌<◌, List, [], ◌∷◌, ◌++◌, map, length, get_or, set, take, replicate, sym, ap, arith}
+use Rattle.std.proofs.Common.{◌≡◌, refl, ◌∙◌, ℕ, zero, suc, ◌+◌, ◌<◌, List, [], ◌∷◌, ◌++◌, map, length, get_or, set, take, replicate, sym, ap, arith}
 use Rattle.std.proofs.lemmas.List.{length-map, map_push, map-set, get_or-map, take_all, take_more_set, replicate-append-replicate}
 use Rattle.std.proofs.lemmas.Bool.{cond-true, lt-ltb}
 use Rattle.queue.specs.Ring.{pushed}
 use Rattle.machine.specs.declared.message.Message.{Message}
-use Rattle.machine.specs.Letters.{letter_of}
+use Rattle.machine.specs.Letters.{Letter, letter_of}
 use Rattle.kernel.specs.Channels.{chan_of}
 
 -- where there is room, a push is one letter more
@@ -18,6 +18,12 @@ appended qs i q p m b e f l =
     let g : chan_of (map (map letter_of) qs) i ≡ map letter_of q = get_or-map (map letter_of) qs i q [] b ∙ ap (map letter_of) (sym e) in
     let h = sent q m (omega (arith, ap length g, l)) in
     map-set (map letter_of) qs i p ∙ cc
+
+-- a message appended to a channel that was just emptied is its only one
+pub only_one : (cs : List (List Letter)) (c : ℕ) (m : Letter) → set (set cs c []) c (chan_of (set cs c []) c ++ (m ∷ [])) ≡ set cs c (m ∷ [])
+only_one [] c m = refl
+only_one (q ∷ qs) zero m = refl
+only_one (q ∷ qs) (suc c) m = ap (λ l. q ∷ l) (only_one qs c m)
 
 -- one list more is emptied
 pub emptied-more : {X : Type 0} (qs : List (List X)) (n : ℕ) → n < length qs → take n qs ≡ replicate n [] → take (n + 1) (set qs n []) ≡ replicate (n + 1) []

@@ -70,20 +70,19 @@ impl Channels {
         self.queues[c.index()].count() as u8
     }
 
+    /// Empties one channel.
+    pub(crate) fn clear_one(&mut self, c: ChannelNumber)
+        ensures { self.new ≡ slice_set self.old c [] }
+    {
+        self.queues[c.index()].clear();
+    }
+
     /// Appends a message, where there is room.
     #[tactic(auto, using(crate::proofs::Channelling::appended))]
     pub(crate) fn append(&mut self, c: ChannelNumber, m: Message)
         requires room { length (chan_of self.old c) < 8 }
         ensures { self.new ≡ slice_set self.old c (chan_of self.old c ++ (letter_of m ∷ [])) }
     {
-        let _ = self.queues[c.index()].push(m);
-    }
-
-    /// The message is the channel's only one.
-    pub(crate) fn replace(&mut self, c: ChannelNumber, m: Message)
-        ensures { self.new ≡ slice_set self.old c (letter_of m ∷ []) }
-    {
-        self.queues[c.index()].clear();
         let _ = self.queues[c.index()].push(m);
     }
 }

@@ -119,9 +119,10 @@ impl<B: Board> System<B> {
     }
 
     /// A load or store outside the area is a fault of its guest.
-    pub(crate) fn stray(&mut self, q: Guest) -> Outcome
-        ensures is { gives (world_of B.areas self.new) (reply_of result) ≡ settled q (strayed self.old.core.tables (core_of self.old.core) q) (world_of B.areas self.old) }
-        ensures shaped { Shaped Outside result }
+    // Out of line: right guests do not stray, and loads and stores stay short.
+    #[inline(never)]
+    pub(crate) fn stray(&mut self, q: Guest)
+        ensures { gives (world_of B.areas self.new) (answer_reply Outside) ≡ settled q (strayed self.old.core.tables (core_of self.old.core) q) (world_of B.areas self.old) }
     {
         let decision = decide(
             &self.core.tables,
@@ -129,7 +130,6 @@ impl<B: Board> System<B> {
             MEM_PROTECTION,
         );
         let _ = self.carry_out(decision);
-        Ok(Answer::Outside)
     }
 
     pub(crate) fn fault(&mut self, q: Guest, event: u8) -> Outcome

@@ -1,11 +1,13 @@
 // The calls that send and receive messages.
-ghost use Rattle.std.specs.Prelude.{◌≡◌, ℕ, ◌<◌, ◌&&◌, if◌then◌else◌};
+ghost use Rattle.std.specs.Prelude.{◌≡◌, ℕ, ◌+◌, ◌<◌, ◌≤◌, ◌&&◌, if◌then◌else◌, [], ◌∷◌, ◌++◌, length};
 ghost use Rattle.machine.specs.Answers.{reply_of};
 ghost use Rattle.machine.specs.declared.answer.Answer.TheVariants.{Done, Received, Waiting};
 ghost use Rattle.machine.specs.Shapes.{Shaped};
 ghost use Rattle.machine.specs.Partitions.{is_open, signalled};
-ghost use Rattle.machine.specs.Ports.{message_bit, alerted, write_sampling_message, send_queuing_message, read_sampling_message, receive_queuing_message, get_queuing_status};
-ghost use Rattle.kernel.specs.World.{world_of, gives, performed};
+ghost use Rattle.machine.specs.Ports.{message_bit, alerted, part, posted, write_sampling_message, send_queuing_message, read_sampling_message, receive_queuing_message, get_queuing_status};
+ghost use Rattle.machine.specs.State.{area};
+ghost use Rattle.kernel.specs.Channels.{chan_of};
+ghost use Rattle.kernel.specs.World.{core_of, world_of, with_core, gives, performed};
 
 use crate::below::{Below, ChannelNumber, Guest};
 use crate::copies::{load_message, store_message};
@@ -42,16 +44,30 @@ fn alert(directory: &Directory, parts: &mut [Partition; 8], c: ChannelNumber)
 }
 
 impl<B: Board> System<B> {
+    /// Appends n bytes of q's area to the channel's messages, and tells its readers.
+    // Out of line: the message is put together in memory, and in line it would keep every call's outcome there.
+    #[inline(never)]
+    fn post(&mut self, q: Guest, c: ChannelNumber, at: u32, n: u32)
+        requires room { length (chan_of self.old.core.channels c) < 8 }
+        requires short { n ≤ 64 }
+        requires inside { at + n ≤ length (area (B.areas self.old.board) q) }
+        ensures { world_of B.areas self.new ≡ with_core (posted self.old.core.tables (core_of self.old.core) c (chan_of self.old.core.channels c ++ (record { bytes = part (area (B.areas self.old.board) q) at n; time = self.old.core.clock.time } ∷ []))) (world_of B.areas self.old) }
+    {
+        let time = self.core.clock.time;
+        let message = load_message(&self.board, q.index(), at, n, time);
+        self.core.channels.append(c, message);
+        let directory = Directory::of(&self.core.tables);
+        alert(&directory, &mut self.core.parts, c);
+    }
+
+    #[tactic(auto, using(crate::proofs::Channelling::only_one))]
     pub(crate) fn write_sampling_message(&mut self, q: Guest, args: Args) -> Outcome
         ensures is { gives (world_of B.areas self.new) (reply_of result) ≡ performed write_sampling_message q args (world_of B.areas self.old) }
         ensures shaped { Shaped Done result }
     {
         let channel = self.source(q, ChannelKind::Sampling, &args)?;
-        let time = self.core.clock.time;
-        let message = load_message(&self.board, q.index(), args[1], args[2], time);
-        self.core.channels.replace(channel, message);
-        let directory = Directory::of(&self.core.tables);
-        alert(&directory, &mut self.core.parts, channel);
+        self.core.channels.clear_one(channel);
+        self.post(q, channel, args[1], args[2]);
         Ok(Answer::Done)
     }
 
@@ -64,11 +80,7 @@ impl<B: Board> System<B> {
         if self.core.channels.count(channel) >= depth as usize {
             return Err(Refusal::NotAvailable);
         }
-        let time = self.core.clock.time;
-        let message = load_message(&self.board, q.index(), args[1], args[2], time);
-        self.core.channels.append(channel, message);
-        let directory = Directory::of(&self.core.tables);
-        alert(&directory, &mut self.core.parts, channel);
+        self.post(q, channel, args[1], args[2]);
         Ok(Answer::Done)
     }
 

@@ -81,20 +81,22 @@ impl<B: Board> System<B> {
         ensures is { gives (world_of B.areas self.new) (reply_of result) ≡ settled q (load self.old.core.tables (core_of self.old.core) (area (B.areas self.old.board) q) q offset) (world_of B.areas self.old) }
         ensures shaped { ShapedOrOutside (Byte 0) result }
     {
-        match self.board.load(q.index(), offset as usize) {
-            Some(byte) => Ok(Answer::Byte(byte)),
-            None => self.stray(q),
-        }
+        let Some(byte) = self.board.load(q.index(), offset as usize) else {
+            self.stray(q);
+            return Ok(Answer::Outside);
+        };
+        Ok(Answer::Byte(byte))
     }
 
     fn store(&mut self, q: Guest, offset: u32, byte: u8) -> Outcome
         ensures is { gives (world_of B.areas self.new) (reply_of result) ≡ settled q (store self.old.core.tables (core_of self.old.core) (area (B.areas self.old.board) q) q offset byte) (world_of B.areas self.old) }
         ensures shaped { ShapedOrOutside Done result }
     {
-        match self.board.store(q.index(), offset as usize, byte) {
-            Some(()) => Ok(Answer::Done),
-            None => self.stray(q),
-        }
+        let Some(()) = self.board.store(q.index(), offset as usize, byte) else {
+            self.stray(q);
+            return Ok(Answer::Outside);
+        };
+        Ok(Answer::Done)
     }
 
     /// Goes on to the time t within the turn: only the time moves.
@@ -233,8 +235,8 @@ impl<B: Board> System<B> {
             }
             Event::Store {
                 partition,
-                offset,
                 byte,
+                offset,
             } => {
                 let q = self.running(partition)?;
                 self.store(q, offset, byte)

@@ -133,14 +133,11 @@ module _ (k : Tables) (M C : ℕ → Bool) (w : Sealed k M C) where
       agree_trans M nobody (alerted-out c n ps (omega arith) o)
       (agree_put M nobody (alerted k c n ps) (port_owner k n) _ (λ m. unheard c n _ (omega arith) o m))
 
-  posted_alike : (i : ℕ) (x y : Core) {ms ns : List Letter} → Alike M C x y → ms ≡ ns → Alike M C (posted k x i ms) (posted k y i ns)
-  posted_alike i x y r e =
-      alike_parts M C (alike_chan M C r (channel_of k i) e) (agree_alerted (channel_of k i) k.ports.count r.parts)
+  posted_alike : (c : ℕ) (x y : Core) {ms ns : List Letter} → Alike M C x y → ms ≡ ns → Alike M C (posted k x c ms) (posted k y c ns)
+  posted_alike c x y r e = alike_parts M C (alike_chan M C r c e) (agree_alerted c k.ports.count r.parts)
 
-  posted-out : (i : ℕ) (x : Core) (ms : List Letter) → C (channel_of k i) ≡ false → Alike M C x (posted k x i ms)
-  posted-out i x ms o =
-      parts_out M C (chan_out M C (alike_refl M C x) (channel_of k i) ms o)
-      (alerted-out (channel_of k i) k.ports.count x.parts (omega arith) o)
+  posted-out : (c : ℕ) (x : Core) (ms : List Letter) → C c ≡ false → Alike M C x (posted k x c ms)
+  posted-out c x ms o = parts_out M C (chan_out M C (alike_refl M C x) c ms o) (alerted-out c k.ports.count x.parts (omega arith) o)
 
   letter_alike : (x y : Core) (a g : List ℕ) → Alike M C x y → letter x a g ≡ letter y a g
   letter_alike x y a g r = ap (λ (c : Clock). record { bytes = part a (arg g 1) (arg g 2); time = c.time }) r.clock
@@ -158,11 +155,11 @@ module _ (k : Tables) (M C : ℕ → Bool) (w : Sealed k M C) where
         inside = λ q m x y a g r.
             moving_matched k M C q Sampling (sendable k a g) x y (arg g 0) _ _ _ _ m r
             (λ h s. matched_same k M C q keeps _
-            (posted_alike (arg g 0) x y r (ap (λ l. l ∷ []) (letter_alike x y a g r))))
+            (posted_alike (channel_of k (arg g 0)) x y r (ap (λ l. l ∷ []) (letter_alike x y a g r))))
             (λ h d. matched_same k M C q keeps _ r);
         outside = λ q o h x a g.
             moving_quiet k M C q Sampling (sendable k a g) x (arg g 0) _ _
-            (λ h s. quiet_core M C x _ (posted-out (arg g 0) x _ (mute q (arg g 0) Sampling o h s)))
+            (λ h s. quiet_core M C x _ (posted-out (channel_of k (arg g 0)) x _ (mute q (arg g 0) Sampling o h s)))
             (λ h d. quiet_core M C x _ (alike_refl M C x));
       }
 
@@ -175,13 +172,13 @@ module _ (k : Tables) (M C : ℕ → Bool) (w : Sealed k M C) where
             let c = r.chans.at (channel_of k (arg g 0)) (sent_seen q (arg g 0) m h s) in
             matched_guard k M C q _ _ (ap (λ (ms : List Letter). ltb (length ms) (channel k (arg g 0)).depth) c)
             (λ _. matched_same k M C q keeps _
-            (posted_alike (arg g 0) x y r (ap₂ (λ (ms : List Letter) l. ms ++ (l ∷ [])) c (letter_alike x y a g r))))
+            (posted_alike (channel_of k (arg g 0)) x y r (ap₂ (λ (ms : List Letter) l. ms ++ (l ∷ [])) c (letter_alike x y a g r))))
             (λ _. matched_same k M C q keeps _ r))
             (λ h d. matched_same k M C q keeps _ r);
         outside = λ q o h x a g.
             moving_quiet k M C q Queuing (sendable k a g) x (arg g 0) _ _
             (λ h s. quiet_guard M C x (ltb (length (queue k x (arg g 0))) (channel k (arg g 0)).depth)
-            (λ _. quiet_core M C x _ (posted-out (arg g 0) x _ (mute q (arg g 0) Queuing o h s)))
+            (λ _. quiet_core M C x _ (posted-out (channel_of k (arg g 0)) x _ (mute q (arg g 0) Queuing o h s)))
             (λ _. quiet_core M C x _ (alike_refl M C x)))
             (λ h d. quiet_core M C x _ (alike_refl M C x));
       }

@@ -144,22 +144,22 @@ module _ (k : Tables) where
     pub left_sane : (i : ℕ) → Sane k x → Sane k (with_chan x (channel_of k i) (left k x i))
     left_sane i r = sane_chan r (channel_of k i) (left k x i) (rest-holds k (channel_of k i) (queue k x i) (r.chans (channel_of k i)))
 
-    posted_sane : (i : ℕ) (ms : List Letter) → Holds k (channel_of k i) ms → Sane k x → Sane k (posted k x i ms)
-    posted_sane i ms h r = sane_parts (sane_chan r (channel_of k i) ms h) (calm-alerted k (channel_of k i) k.ports.count (omega arith) r.parts)
+    posted_sane : (c : ℕ) (ms : List Letter) → Holds k c ms → Sane k x → Sane k (posted k x c ms)
+    posted_sane c ms h r = sane_parts (sane_chan r c ms h) (calm-alerted k c k.ports.count (omega arith) r.parts)
 
     module _ (a : List ℕ) (q : ℕ) (g : List ℕ) where
-      pub written_sane : (usable k x q Sampling (arg g 0) && sendable k a g) ≡ true → Sane k x → Sane k (posted k x (arg g 0) (letter x a g ∷ []))
+      pub written_sane : (usable k x q Sampling (arg g 0) && sendable k a g) ≡ true → Sane k x → Sane k (posted k x (channel_of k (arg g 0)) (letter x a g ∷ []))
       written_sane e =
-          posted_sane (arg g 0) _ (room_sampling _ _ (kind_of_lem k x q Sampling (arg g 0) _ e), (letter-sized k x a q Sampling g e, tt))
+          posted_sane (channel_of k (arg g 0)) _ (room_sampling _ _ (kind_of_lem k x q Sampling (arg g 0) _ e), (letter-sized k x a q Sampling g e, tt))
 
       pub sent_sane : (usable k x q Queuing (arg g 0) && sendable k a g) ≡ true →
           ltb (length (queue k x (arg g 0))) (channel k (arg g 0)).depth ≡ true → Sane k x →
-          Sane k (posted k x (arg g 0) (queue k x (arg g 0) ++ (letter x a g ∷ [])))
+          Sane k (posted k x (channel_of k (arg g 0)) (queue k x (arg g 0) ++ (letter x a g ∷ [])))
       sent_sane e l r =
           let ms = queue k x (arg g 0) in
           let n = room-queuing (channel k (arg g 0)).kind (channel k (arg g 0)).depth (length ms) (kind_of_lem k x q Queuing (arg g 0) _ e) (ltb-true _ _ l) in
           let z = letter-sized k x a q Queuing g e in
-          posted_sane (arg g 0) (ms ++ (letter x a g ∷ []))
+          posted_sane (channel_of k (arg g 0)) (ms ++ (letter x a g ∷ []))
           (omega (arith, length-append ms (letter x a g ∷ [])), sized-push _ ms (letter x a g) z.0 z.1 (r.chans (channel_of k (arg g 0))).1)
           r
 

@@ -89,9 +89,9 @@ sendable k a g = (nat_le 1 (arg g 2) && nat_le (arg g 2) (channel k (arg g 0)).l
 abbrev pub letter : Core → List ℕ → List ℕ → Letter
 letter x a g = record { bytes = part a (arg g 1) (arg g 2); time = x.clock.time }
 
--- the message goes into the channel, and its readers are told
+-- channel c holds these messages, and its readers are told
 abbrev pub posted : Tables → Core → ℕ → List Letter → Core
-posted k x i ms = with_parts (with_chan x (channel_of k i) ms) (alerted k (channel_of k i) k.ports.count x.parts)
+posted k x c ms = with_parts (with_chan x c ms) (alerted k c k.ports.count x.parts)
 
 -- a send by port, address and length: the tests that both types share
 abbrev pub sending : ChannelKind → Tables → Core → List ℕ → ℕ → List ℕ → Out → Out
@@ -102,14 +102,14 @@ sending t k x a q g o =
 
 -- 10: the message replaces the channel's
 abbrev pub write_sampling_message : Call
-write_sampling_message k x a q g = sending Sampling k x a q g (done (posted k x (arg g 0) (letter x a g ∷ [])))
+write_sampling_message k x a q g = sending Sampling k x a q g (done (posted k x (channel_of k (arg g 0)) (letter x a g ∷ [])))
 
 -- 13: the message is appended, where the channel is not full
 abbrev pub send_queuing_message : Call
 send_queuing_message k x a q g =
     sending Queuing k x a q g
     (guard (nat_lt (length (queue k x (arg g 0))) (channel k (arg g 0)).depth)
-    (done (posted k x (arg g 0) (queue k x (arg g 0) ++ (letter x a g ∷ []))))
+    (done (posted k x (channel_of k (arg g 0)) (queue k x (arg g 0) ++ (letter x a g ∷ []))))
     (refused x NotAvailable))
 
 -- a receipt by port, address and length: the tests that both types share
