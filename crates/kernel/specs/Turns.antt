@@ -1,7 +1,8 @@
 -- For how long nothing changes on the processor: no slot starts or ends.
-use Rattle.std.specs.Prelude.{◌≡◌, ℕ, ◌<◌, ◌≤◌, min, Bool, false, cond, ◌||◌, List, [], ◌∷◌, ◌==◌, nat_lt}
+use Rattle.std.specs.Prelude.{◌≡◌, ℕ, suc, ◌<◌, ◌≤◌, min, Bool, false, cond, ◌||◌, List, [], ◌∷◌, ◌==◌, length, nat_lt, nat_le, slice_index_or}
 use Rattle.vector.specs.declared.tables.Plan.{Plan}
 use Rattle.vector.specs.declared.tables.Slot.{Slot}
+use Rattle.vector.specs.Blank.{slot0}
 use Rattle.vector.specs.Rows.{slot_end}
 use Rattle.machine.specs.Questions.{slots_of, holder}
 use Rattle.kernel.specs.declared.turn.Turn.{Turn}
@@ -24,10 +25,19 @@ unfoldable pub first_edge : List Slot → ℕ → ℕ → ℕ
 first_edge [] o u = u
 first_edge (s ∷ ss) o u = first_edge ss o (edge s o u)
 
--- whose slot runs at the offset o, and where that may change
+-- how many slots have ended by the offset o: they are in order, so it is the first ones
+unfoldable pub ended : List Slot → ℕ → ℕ
+ended [] o = 0
+ended (s ∷ ss) o = cond (nat_le (slot_end s) o) (suc (ended ss o)) 0
+
+-- the first n slots have ended by the offset o
+abbrev pub Past : List Slot → ℕ → ℕ → Type 0
+Past ss o n = (n ≤ length ss) × ((j : ℕ) → j < n → slot_end (slice_index_or ss j slot0) ≤ o)
+
+-- whose slot runs at the offset o, where that may change, and the first slot that has not ended
 abbrev pub turn_of : Plan → ℕ → Turn
-turn_of p o = record { holder = holder (slots_of p) o; until = first_edge (slots_of p) o p.frame }
+turn_of p o = record { holder = holder (slots_of p) o; until = first_edge (slots_of p) o p.frame; slot = ended (slots_of p) o }
 
 -- the turn is right at the offset o, and up to its end
 abbrev pub Turned : Plan → ℕ → Turn → Type 0
-Turned p o t = (t.holder ≡ holder (slots_of p) o) × Calm (slots_of p) o t.until × (t.until ≤ p.frame)
+Turned p o t = (t.holder ≡ holder (slots_of p) o) × Calm (slots_of p) o t.until × (t.until ≤ p.frame) × Past (slots_of p) o t.slot

@@ -77,7 +77,7 @@ impl<B: Board> System<B> {
             start: self.core.clock.time,
             ..self.core.clock
         };
-        self.core.turn = Turn::at(&self.core.tables.plans.rows[0], 0);
+        self.core.turn = Turn::at(&self.core.tables.plans.rows[0], 0, 0);
         self.core.parts = [Partition::new(); 8];
         self.core.channels.clear();
     }

@@ -48,7 +48,7 @@ impl<B: Board> System<B> {
             next: 0,
             start: 0,
         };
-        let turn = Turn::at(&tables.plans.rows[0], 0);
+        let turn = Turn::at(&tables.plans.rows[0], 0, 0);
         let core = Core {
             tables,
             clock,
@@ -113,6 +113,7 @@ impl<B: Board> System<B> {
         requires ahead { self.old.core.clock.time ≤ t }
         ensures { world_of B.areas self.new ≡ with_core (later self.old.core.tables (t - self.old.core.clock.time) (core_of self.old.core)) (world_of B.areas self.old) }
     {
+        let begun = self.core.clock.start;
         pass(
             &self.core.tables.plans,
             &mut self.core.clock,
@@ -121,7 +122,12 @@ impl<B: Board> System<B> {
         );
         let clock = &self.core.clock;
         let plan = &self.core.tables.plans.rows[usize::from(clock.plan)];
-        self.core.turn = Turn::at(plan, clock.time - clock.start);
+        let first = if clock.start == begun {
+            self.core.turn.slot
+        } else {
+            0
+        };
+        self.core.turn = Turn::at(plan, first, clock.time - clock.start);
     }
 
     /// Goes on to the time t, which is not before now and not too far ahead.
