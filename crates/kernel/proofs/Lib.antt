@@ -4,4 +4,6 @@ pub mod Keeping
 pub mod Grounding
 pub mod Channelling
 pub mod Turning
+pub mod Alerting
+pub mod Sending
 mod Rows

@@ -2,6 +2,7 @@
 use crate::channels::Channels;
 use crate::log::Log;
 use crate::turn::Turn;
+use lookup::Index;
 use machine::clock::Clock;
 use machine::partition::Partition;
 use vector::tables::Tables;
@@ -9,6 +10,7 @@ use vector::tables::Tables;
 #[derive(Drop)]
 pub struct Core {
     pub(crate) tables: Tables,
+    pub(crate) index: Index,
     pub(crate) clock: Clock,
     pub(crate) turn: Turn,
     pub(crate) halted: bool,

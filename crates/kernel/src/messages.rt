@@ -13,7 +13,7 @@ use crate::below::{Below, ChannelNumber, Guest};
 use crate::copies::{load_message, store_message};
 use crate::whole::System;
 use board::Board;
-use lookup::{Directory, is_hearing};
+use lookup::{Directory, take_lowest};
 use machine::answer::{Answer, Outcome, Refusal};
 use machine::event::Args;
 use machine::partition::Partition;
@@ -23,12 +23,12 @@ use vector::tables::ChannelKind;
 const MESSAGE: u32 = 1 << 8;
 
 // the bound on the port is that of the partition's word
-/// Tells a partition of a message, where its port hears of it and is open.
-fn tell(partition: &mut Partition, port: u8, hearing: bool)
+/// Tells a partition of a message, where its port is open.
+fn tell(partition: &mut Partition, port: u8)
     requires { port < 32 }
-    ensures { partition.new ≡ (if hearing && is_open port partition.old then signalled message_bit partition.old else partition.old) }
+    ensures { partition.new ≡ (if is_open port partition.old then signalled message_bit partition.old else partition.old) }
 {
-    if hearing && partition.is_open(port) {
+    if partition.is_open(port) {
         partition.signal(MESSAGE);
     }
 }
@@ -37,9 +37,10 @@ fn tell(partition: &mut Partition, port: u8, hearing: bool)
 fn alert(directory: &Directory, parts: &mut [Partition; 8], c: ChannelNumber)
     ensures { parts.new ≡ alerted directory.now.tables.now c directory.now.tables.now.ports.count parts.old }
 {
-    for (i, port) in directory.tables.ports.as_slice().iter().enumerate() {
-        let hearing = is_hearing(directory.tables, c.number(), i);
-        tell(&mut parts[port.partition as usize], i as u8, hearing);
+    let mut left = directory.hearing(c.number());
+    while let Some(i) = take_lowest(&mut left) {
+        let port = &directory.tables.ports.rows[i as usize];
+        tell(&mut parts[port.partition as usize], i);
     }
 }
 
@@ -56,7 +57,7 @@ impl<B: Board> System<B> {
         let time = self.core.clock.time;
         let message = load_message(&self.board, q.index(), at, n, time);
         self.core.channels.append(c, message);
-        let directory = Directory::of(&self.core.tables);
+        let directory = Directory::of(&self.core.tables, &self.core.index);
         alert(&directory, &mut self.core.parts, c);
     }
 

@@ -53,7 +53,8 @@ impl<B: Board> System<B> {
         ensures is { result ≡ usable_of self.now.core.tables (core_of self.now.core) q kind i }
         ensures there { result ≡ true → i < self.now.core.tables.ports.count }
     {
-        Directory::of(&self.core.tables).is_owner(q.number(), kind, i) && self.is_open(q, i as u8)
+        Directory::of(&self.core.tables, &self.core.index).is_owner(q.number(), kind, i)
+            && self.is_open(q, i as u8)
     }
 
     /// Whether a range holds 1 byte to the longest message of the port's channel.
@@ -122,7 +123,7 @@ impl<B: Board> System<B> {
             return Err(Refusal::InvalidParam);
         }
         let name = load_name(&self.board, q.index(), args[0], args[1]);
-        let directory = Directory::of(&self.core.tables);
+        let directory = Directory::of(&self.core.tables, &self.core.index);
         let i = directory
             .find_port(q.number(), kind, &name)
             .ok_or(Refusal::InvalidParam)?;

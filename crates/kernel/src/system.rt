@@ -26,7 +26,7 @@ use crate::turn::Turn;
 use crate::whole::System;
 use board::Board;
 use clock::pass;
-use lookup::Directory;
+use lookup::{Directory, Index};
 use machine::answer::{Answer, Outcome, Refusal};
 use machine::clock::{Clock, FARTHEST, Time};
 use machine::event::{Args, Event, Hypercall};
@@ -49,8 +49,10 @@ impl<B: Board> System<B> {
             start: 0,
         };
         let turn = Turn::at(&tables.plans.rows[0], 0, 0);
+        let index = Index::of(&tables);
         let core = Core {
             tables,
+            index,
             clock,
             turn,
             halted,
@@ -207,7 +209,7 @@ impl<B: Board> System<B> {
         ensures is { result ≡ (if exists self.now.core.tables partition then Some (circle_of self.now.core.tables partition) else None) }
         ensures least { IfSome result (λ m. Circle self.now.core.tables partition (bit m)) }
     {
-        Directory::of(&self.core.tables).circle(partition)
+        Directory::of(&self.core.tables, &self.core.index).circle(partition)
     }
 
     /// The byte at a place of a partition's area, for who looks at the board when the events are over; none outside the area.

@@ -1,8 +1,9 @@
-// The system: a board, and the core whose tables and clock are sound.
+// The system: a board, and the core whose tables, clock and index are sound.
 ghost use Rattle.std.specs.Prelude.{◌-◌, ◌≤◌};
 ghost use Rattle.vector.specs.Fair.{AllWithin};
 ghost use Rattle.clock.specs.Timely.{Timely};
 ghost use Rattle.lookup.specs.Bounds.{Ported, Joined, Lined};
+ghost use Rattle.lookup.specs.Index.{Indexed};
 ghost use Rattle.machine.specs.Time.{plan_at};
 ghost use Rattle.kernel.specs.Soundness.{Planned, Framed, Slotted, Owned, Parted, Bounded};
 ghost use Rattle.kernel.specs.Turns.{Turned};
@@ -26,4 +27,5 @@ pub struct System<B> {
     ghost lined: { Lined core.tables.lines },
     ghost timely: { Timely core.tables.plans core.clock },
     ghost turned: { Turned (plan_at core.tables.plans core.clock.plan) (core.clock.time - core.clock.start) core.turn },
+    ghost indexed: { Indexed core.tables core.index },
 }

@@ -1,1 +1,3 @@
 pub mod Finding
+pub mod Marking
+pub mod Masking

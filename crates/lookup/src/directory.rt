@@ -1,49 +1,58 @@
 // The ports of the tables: whose they are, and which port a name finds.
-ghost use Rattle.std.specs.Prelude.{◌≡◌, ◌<◌, ◌≤◌, ◌&&◌, IfSome, if◌then◌else◌, Some};
+ghost use Rattle.std.specs.Prelude.{◌≡◌, ℕ, ◌<◌, ◌≤◌, ◌&&◌, IfSome, if◌then◌else◌, Some};
 ghost use Rattle.vector.specs.Names.{same_name};
 ghost use Rattle.machine.specs.Questions.{owns, named};
 ghost use Rattle.machine.specs.Searches.{Found};
 ghost use Rattle.machine.specs.Questions.{port as port_at};
+ghost use Rattle.vector.specs.Fields.{has_bit};
 ghost use Rattle.lookup.specs.Bounds.{Ported, Joined};
+ghost use Rattle.lookup.specs.Index.{Indexed, listens};
 
+use crate::index::Index;
+use crate::masks::take_highest;
 use vector::tables::{ChannelKind, Name, Tables};
 
-/// Tables of at most 32 ports, each of a partition and a channel below 8.
+/// Tables of at most 32 ports, each of a partition and a channel below 8, and the index of the ports.
 #[derive(Clone, Copy)]
 pub struct Directory<'a> {
     pub tables: &'a Tables,
+    index: &'a Index,
     ghost ported: { Ported tables.now.ports },
     ghost joined: { Joined tables.now.ports },
+    ghost indexed: { Indexed tables.now index.now },
 }
 
 impl<'a> Directory<'a> {
-    /// The directory of tables whose ports are known to be so.
-    pub fn of(tables: &'a Tables) -> Directory<'a>
+    /// The directory of tables whose ports are known to be so, and of their index.
+    pub fn of(tables: &'a Tables, index: &'a Index) -> Directory<'a>
         requires ported { Ported tables.now.ports }
         requires joined { Joined tables.now.ports }
+        requires indexed { Indexed tables.now index.now }
         ensures { result.tables.now ≡ tables.now }
     {
-        Directory { tables }
+        Directory { tables, index }
     }
 
     /// Whether i is a port of q on a channel of this type.
     pub fn is_owner(&self, q: u8, kind: ChannelKind, i: u32) -> bool
         ensures { result ≡ owns self.now.tables.now q kind i }
     {
-        if i as usize >= self.tables.ports.count {
-            return false;
-        }
-        let port = &self.tables.ports.rows[i as usize];
-        let channel = &self.tables.channels.rows[usize::from(port.channel)];
-        port.partition == q && channel.kind == kind
+        i < 32 && self.index.ports_of(q, kind) >> i & 1 == 1
     }
 
-    /// Whether i is a port of q of this type and name.
-    fn is_port(&self, q: u8, kind: ChannelKind, name: &Name, i: usize) -> bool
-        requires there { i < self.now.tables.now.ports.count }
-        ensures { result ≡ (owns self.now.tables.now q kind i && same_name (port_at self.now.tables.now i).name name.now) }
+    /// The destinations of channel c: bit i is set where port i is one.
+    pub fn hearing(&self, c: u8) -> u32
+        ensures { (i : ℕ) → has_bit result i ≡ listens self.now.tables.now c i }
     {
-        self.is_owner(q, kind, i as u32) && self.tables.ports.rows[i].name == *name
+        self.index.hearing(c)
+    }
+
+    /// Whether a port that is there has this name.
+    fn is_named(&self, i: u8, name: &Name) -> bool
+        requires { i < self.now.tables.now.ports.count }
+        ensures { result ≡ same_name (port_at self.now.tables.now i).name name.now }
+    {
+        self.tables.ports.rows[usize::from(i)].name == *name
     }
 
     /// The number of q's port of this type and name; its only one, where the names of one partition's ports differ.
@@ -53,10 +62,10 @@ impl<'a> Directory<'a> {
         ensures there { IfSome result (λ i. i < self.now.tables.now.ports.count) }
         ensures found { Found self.now.tables.now q kind name.now }
     {
-        // a closure of `find` would not know that i is the number of a port
-        for i in (0..self.tables.ports.count).rev() {
-            if self.is_port(q, kind, name, i) {
-                return Some(i as u8);
+        let mut left = self.index.ports_of(q, kind);
+        while let Some(i) = take_highest(&mut left) {
+            if self.is_named(i, name) {
+                return Some(i);
             }
         }
         None

@@ -2,10 +2,12 @@
 #![tactic(auto)]
 
 mod directory;
+mod index;
+mod masks;
 mod rounds;
 mod tables;
 
 pub use directory::Directory;
-pub use tables::{
-    is_hearing, is_managing, is_member, is_source, is_system, is_there, mask_of, owner_of,
-};
+pub use index::Index;
+pub use masks::{take_highest, take_lowest};
+pub use tables::{is_managing, is_member, is_source, is_system, is_there, mask_of, owner_of};

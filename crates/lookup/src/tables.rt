@@ -2,7 +2,7 @@
 ghost use Rattle.std.specs.Prelude.{◌≡◌, ◌<◌, ◌≤◌, ◌&&◌, IfSome, if◌then◌else◌, Some};
 ghost use Rattle.vector.specs.Names.{same_name};
 ghost use Rattle.machine.specs.Partitions.{bit};
-ghost use Rattle.machine.specs.Questions.{exists, is_system, manages, is_source, same_kind, link, owner, owns, hears, named};
+ghost use Rattle.machine.specs.Questions.{exists, is_system, manages, is_source, link, owner};
 ghost use Rattle.machine.specs.Questions.{port as port_at};
 ghost use Rattle.lookup.specs.Bounds.{Ported, Joined, Lined};
 
@@ -63,13 +63,4 @@ pub fn is_source(direction: Direction) -> bool
     ensures { result ≡ is_source direction }
 {
     direction == Direction::Source
-}
-
-/// Whether port i is a destination of the channel c; i is below 32, as every row's number is, the blank ones' too.
-pub fn is_hearing(tables: &Tables, c: u8, i: usize) -> bool
-    requires { i < 32 }
-    ensures { result ≡ hears tables.now c i }
-{
-    let port = &tables.ports.rows[i];
-    port.channel == c && !is_source(port.direction)
 }

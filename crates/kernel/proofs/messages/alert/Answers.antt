@@ -1,17 +1,23 @@
-use Rattle.std.proofs.Common.{◌<◌, add-one, arith, rules}
-use Rattle.vector.specs.Blank.{port0}
-use Rattle.machine.specs.Ports.{alerted}
-use Rattle.kernel.proofs.Rows.{row}
+use Rattle.std.proofs.Common.{set, ap, ◌∙◌}
+use Rattle.machine.specs.Questions.{port}
+use Rattle.lookup.specs.Index.{listens}
+use Rattle.kernel.proofs.Alerting.{begun, ended, there, more}
 use Rattle.kernel.proofs.messages.alert.Goals as goal
 
 pub loop-i-init : goal.loop-i-init
-unfolding alerted
-loop-i-init c = search rules
+loop-i-init c =
+    let k = c.args.directory.now.tables.now in
+    begun k c.args.c c.args.parts.now _ (λ i. c.hearing-left.ensures i ∙ ap (λ n. listens k n i) c.number.ensures.is)
+
+pub bounds-parts-port : goal.bounds-parts-port
+bounds-parts-port c =
+    let d = c.args.directory.now in
+    (d.joined _ (there d.tables.now c.args.c c.args.parts.now _ _ c.in-Some.i _ c.in-Some.ensures c.loop-i.invariant)).0
 
 pub loop-i-preserved : goal.loop-i-preserved
-unfolding alerted
 loop-i-preserved c =
-    let table = c.args.directory.now.tables.now.ports in
-    let n : c.loop-i.i < table.count = omega (arith, c.as_slice-port-items.ensures.all c.args.directory.now.ported, c.loop-i-test.true) in
-    let e = row table.count table.rows _ c.as_slice-port-items.ensures.is c.loop-i.i port0 n in
-    rw add-one (search (rules, e))
+    let k = c.args.directory.now.tables.now in
+    more k c.args.c c.args.parts.now _ _ c.in-Some.i _ c.in-Some.ensures c.loop-i.invariant _ (ap (set c.loop-i.parts (port k c.in-Some.i).partition) c.tell.ensures)
+
+pub returns : goal.returns
+returns c = ended c.args.directory.now.tables.now c.args.c c.args.parts.now _ _ c.in_default.ensures c.loop-i.invariant

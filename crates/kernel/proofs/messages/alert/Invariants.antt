@@ -1,7 +1,9 @@
-use Rattle.std.proofs.Common.{◌≡◌}
-use Rattle.machine.specs.Ports.{alerted}
+use Rattle.kernel.proofs.Alerting.{Left}
 use Rattle.kernel.proofs.messages.alert.Given as goal
 
--- the ports so far have been told
+-- the ports whose bits are gone have been told
 abbrev pub invariant-loop-i : goal.invariant-loop-i
-invariant-loop-i l = l.parts ≡ alerted l.directory.tables.now l.c l.i l.initial.parts
+invariant-loop-i l = Left l.directory.tables.now l.fn.c l.initial.parts l.left l.parts
+
+abbrev pub decreases-loop-i : goal.decreases-loop-i
+decreases-loop-i l = l.left

@@ -20,4 +20,5 @@ invariant_of-result g c =
       lined = s.5;
       timely = started t s;
       turned = c.at-turn.ensures.turned;
+      indexed = c.of-index.ensures;
     }

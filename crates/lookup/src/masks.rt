@@ -1,0 +1,31 @@
+// The bits of a mask, one at a time from either end.
+ghost use Rattle.std.specs.Prelude.{◌≡◌, MatchOption};
+ghost use Rattle.lookup.specs.Masks.{Lowest, Highest};
+
+/// Takes the lowest bit out of a mask, and gives its number; none of 0.
+#[inline(always)]
+pub fn take_lowest(mask: &mut u32) -> Option<u8>
+    ensures { MatchOption result (mask.old ≡ 0) (λ i. Lowest mask.old mask.new i) }
+{
+    let word = *mask;
+    if word == 0 {
+        return None;
+    }
+    let i = word.trailing_zeros();
+    *mask = word & !(1 << i);
+    Some(i as u8)
+}
+
+/// Takes the highest bit out of a mask, and gives its number; none of 0.
+#[inline(always)]
+pub fn take_highest(mask: &mut u32) -> Option<u8>
+    ensures { MatchOption result (mask.old ≡ 0) (λ i. Highest mask.old mask.new i) }
+{
+    let word = *mask;
+    if word == 0 {
+        return None;
+    }
+    let i = 31 - word.leading_zeros();
+    *mask = word & !(1 << i);
+    Some(i as u8)
+}
