@@ -76,11 +76,11 @@ module _ (k : Tables) (q : ℕ) (t : ChannelKind) (n : Name) where
         ∙ named_at i
         ∙ ap (λ o. cond (o && same_name (port k i).name n) (Some i) (named k q t n i)) owned
 
-    pub found : same_name (port k i).name n ≡ true → named k q t n k.ports.count ≡ Some i
-    found e = here ∙ cond-true _ _ _ e
+    pub is_found : same_name (port k i).name n ≡ true → named k q t n k.ports.count ≡ Some i
+    is_found e = here ∙ cond-true _ _ _ e
 
-    pub next : same_name (port k i).name n ≡ false → Left v
-    next e =
+    pub goes_on : same_name (port k i).name n ≡ false → Left v
+    goes_on e =
         record {
           top = i;
           within = omega (arith, below, r.within);

@@ -33,11 +33,18 @@ impl<'a> Directory<'a> {
         Directory { tables, index }
     }
 
+    /// The ports of q on channels of this type: bit i is set where port i is one.
+    fn ports_of(&self, q: u8, kind: ChannelKind) -> u32
+        ensures { (i : ℕ) → has_bit result i ≡ owns self.now.tables.now q kind i }
+    {
+        self.index.ports_of(q, kind)
+    }
+
     /// Whether i is a port of q on a channel of this type.
     pub fn is_owner(&self, q: u8, kind: ChannelKind, i: u32) -> bool
         ensures { result ≡ owns self.now.tables.now q kind i }
     {
-        i < 32 && self.index.ports_of(q, kind) >> i & 1 == 1
+        i < 32 && self.ports_of(q, kind) >> i & 1 == 1
     }
 
     /// The destinations of channel c: bit i is set where port i is one.
@@ -56,13 +63,13 @@ impl<'a> Directory<'a> {
     }
 
     /// The number of q's port of this type and name; its only one, where the names of one partition's ports differ.
-    #[tactic(auto, using(machine::proofs::Names::found))]
+    #[tactic(auto, using(machine::proofs::Names::found, crate::proofs::Finding::is_found, crate::proofs::Finding::ended))]
     pub fn find_port(&self, q: u8, kind: ChannelKind, name: &Name) -> Option<u8>
         ensures is { result ≡ named self.now.tables.now q kind name.now self.now.tables.now.ports.count }
         ensures there { IfSome result (λ i. i < self.now.tables.now.ports.count) }
         ensures found { Found self.now.tables.now q kind name.now }
     {
-        let mut left = self.index.ports_of(q, kind);
+        let mut left = self.ports_of(q, kind);
         while let Some(i) = take_highest(&mut left) {
             if self.is_named(i, name) {
                 return Some(i);

@@ -3,6 +3,7 @@ ghost use Rattle.std.specs.Prelude.{◌≡◌, MatchOption};
 ghost use Rattle.lookup.specs.Masks.{Lowest, Highest};
 
 /// Takes the lowest bit out of a mask, and gives its number; none of 0.
+#[tactic(auto, using(crate::proofs::Masking::lowest))]
 #[inline(always)]
 pub fn take_lowest(mask: &mut u32) -> Option<u8>
     ensures { MatchOption result (mask.old ≡ 0) (λ i. Lowest mask.old mask.new i) }
@@ -17,6 +18,7 @@ pub fn take_lowest(mask: &mut u32) -> Option<u8>
 }
 
 /// Takes the highest bit out of a mask, and gives its number; none of 0.
+#[tactic(auto, using(crate::proofs::Masking::highest))]
 #[inline(always)]
 pub fn take_highest(mask: &mut u32) -> Option<u8>
     ensures { MatchOption result (mask.old ≡ 0) (λ i. Highest mask.old mask.new i) }
