@@ -1,8 +1,14 @@
 -- The gaps of a frame, slot by slot.
-use Rattle.std.proofs.Common.{◌≡◌, ℕ, ◌+◌, ◌-◌, ◌<◌, ◌≤◌, List, length, get_or, drop, ap}
-use Rattle.std.proofs.lemmas.List.{drop_more, drop_all}
+use Rattle.std.proofs.Common.{◌≡◌, ◌∙◌, ℕ, ◌+◌, ◌-◌, ◌<◌, ◌≤◌, List, length, get_or, set, take, drop, inl, inr, sym, ap, arith}
+use Rattle.std.proofs.lemmas.Bool.{cases_eq}
+use Rattle.std.proofs.lemmas.Grind.{get_or-set_at}
+use Rattle.std.proofs.lemmas.List.{drop_more, drop_all, length-set, length-take, get_or-take, get_or-set_other}
+use Rattle.vector.specs.Tables.{Plans}
+use Rattle.vector.specs.declared.tables.Plan.{Plan}
 use Rattle.vector.specs.declared.tables.Slot.{Slot}
-use Rattle.vector.specs.Blank.{slot0}
+use Rattle.vector.specs.Blank.{slot0, plan0}
+use Rattle.machine.specs.Questions.{slots_of}
+use Rattle.machine.specs.Time.{plan_at}
 use Rattle.machine.specs.Management.{gaps}
 
 module _ (ss : List Slot) (f : ℕ) where
@@ -16,3 +22,25 @@ module _ (ss : List Slot) (f : ℕ) where
   pub gaps_end : (i e : ℕ) → length ss ≤ i → gaps e (drop i ss) f ≡ f - e
   unfolding gaps
   gaps_end i e h = ap (λ xs. gaps e xs f) (drop_all i ss h)
+
+-- the microseconds of a plan's frame that no slot has
+abbrev sum_of : Plan → ℕ
+sum_of p = gaps 0 (slots_of p) p.frame
+
+-- those of the first n plans are added up
+abbrev pub Summed : Plans → ℕ → List ℕ → Type 0
+Summed ps n gs = (length gs ≡ 4) × ((j : ℕ) → j < n → get_or gs j 0 ≡ sum_of (plan_at ps j))
+
+pub summed_more : (ps : Plans) (ss : List Plan) (n : ℕ) (gs : List ℕ) → ss ≡ take ps.count ps.rows → n < length ss → ps.count ≤ 4 → Summed ps n gs →
+    Summed ps (n + 1) (set gs n (sum_of (get_or ss n plan0)))
+summed_more ps ss n gs e l few m =
+    let v = sum_of (get_or ss n plan0) in
+    let there : n < ps.count = omega (arith, l, ap length e, length-take ps.count ps.rows) in
+    let same : get_or ss n plan0 ≡ plan_at ps n = ap (λ xs. get_or xs n plan0) e ∙ get_or-take ps.count ps.rows n plan0 there in (
+      length-set gs n v ∙ m.0,
+      λ j h.
+          elim (cases_eq j n) [
+            | inl i ↦ get_or-set_at gs n j v 0 i (omega (arith, m.0, there, few)) ∙ ap sum_of (same ∙ ap (plan_at ps) (sym i))
+            | inr d ↦ get_or-set_other gs n j v 0 d ∙ m.1 j (omega (arith, h, d))
+          ],
+    )

@@ -1,10 +1,12 @@
 -- What a system's tables keep, in parts: a ghost field states each.
-use Rattle.std.specs.Prelude.{ℕ, ◌<◌, ◌≤◌, slice_index_or}
+use Rattle.std.specs.Prelude.{◌≡◌, ℕ, ◌<◌, ◌≤◌, List, slice_index, slice_index_or}
 use Rattle.vector.specs.Tables.{Plans}
 use Rattle.vector.specs.declared.tables.Tables.{Tables}
 use Rattle.vector.specs.Fair.{channel_at}
 use Rattle.vector.specs.Blank.{slot0}
 use Rattle.machine.specs.Searches.{Apart}
+use Rattle.machine.specs.Questions.{slots_of}
+use Rattle.machine.specs.Management.{gaps}
 use Rattle.machine.specs.Time.{plan_at}
 
 -- 1 to 4 plans
@@ -30,3 +32,7 @@ Parted ps = (i : ℕ) → i < ps.count → Apart (plan_at ps i)
 -- the channel of each port takes messages of at most 64 bytes, and at most 8 of them
 abbrev pub Bounded : Tables → Type 0
 Bounded t = (i : ℕ) → i < t.ports.count → ((channel_at t i).longest ≤ 64) × ((channel_at t i).depth ≤ 8)
+
+-- for each plan, the microseconds of its frame that no slot has
+abbrev pub Gapped : Plans → List ℕ → Type 0
+Gapped ps gs = (i : ℕ) → i < ps.count → slice_index gs i ≡ gaps 0 (slots_of (plan_at ps i)) (plan_at ps i).frame

@@ -3,7 +3,7 @@ use crate::channels::Channels;
 use crate::log::Log;
 use crate::turn::Turn;
 use lookup::Index;
-use machine::clock::Clock;
+use machine::clock::{Clock, Time};
 use machine::partition::Partition;
 use vector::tables::Tables;
 
@@ -11,6 +11,7 @@ use vector::tables::Tables;
 pub struct Core {
     pub(crate) tables: Tables,
     pub(crate) index: Index,
+    pub(crate) slotless: [Time; 4],
     pub(crate) clock: Clock,
     pub(crate) turn: Turn,
     pub(crate) halted: bool,

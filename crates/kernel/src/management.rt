@@ -11,7 +11,6 @@ ghost use Rattle.kernel.specs.World.{world_of, gives, performed};
 
 use crate::areas::wipe;
 use crate::below::Guest;
-use crate::schedule::slotless;
 use crate::whole::System;
 use board::Board;
 use lookup::{is_managing, is_system, is_there};
@@ -132,7 +131,7 @@ impl<B: Board> System<B> {
     fn slotless(&self) -> Time
         ensures { result ≡ gaps 0 (slots_of (plan self.now.core.tables self.now.core.clock.plan)) (plan self.now.core.tables self.now.core.clock.plan).frame }
     {
-        slotless(&self.core.tables.plans.rows[self.core.clock.plan as usize])
+        self.core.slotless[usize::from(self.core.clock.plan)]
     }
 
     pub(crate) fn get_plan_status(&mut self, q: Guest, args: Args) -> Outcome

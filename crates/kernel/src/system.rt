@@ -22,6 +22,7 @@ use crate::below::Guest;
 use crate::channels::Channels;
 use crate::inner::Core;
 use crate::log::Log;
+use crate::schedule::all_slotless;
 use crate::turn::Turn;
 use crate::whole::System;
 use board::Board;
@@ -50,9 +51,11 @@ impl<B: Board> System<B> {
         };
         let turn = Turn::at(&tables.plans.rows[0], 0, 0);
         let index = Index::of(&tables);
+        let slotless = all_slotless(&tables.plans);
         let core = Core {
             tables,
             index,
+            slotless,
             clock,
             turn,
             halted,

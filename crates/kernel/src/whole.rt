@@ -5,7 +5,7 @@ ghost use Rattle.clock.specs.Timely.{Timely};
 ghost use Rattle.lookup.specs.Bounds.{Ported, Joined, Lined};
 ghost use Rattle.lookup.specs.Index.{Indexed};
 ghost use Rattle.machine.specs.Time.{plan_at};
-ghost use Rattle.kernel.specs.Soundness.{Planned, Framed, Slotted, Owned, Parted, Bounded};
+ghost use Rattle.kernel.specs.Soundness.{Planned, Framed, Slotted, Owned, Parted, Bounded, Gapped};
 ghost use Rattle.kernel.specs.Turns.{Turned};
 
 use crate::inner::Core;
@@ -28,4 +28,5 @@ pub struct System<B> {
     ghost timely: { Timely core.tables.plans core.clock },
     ghost turned: { Turned (plan_at core.tables.plans core.clock.plan) (core.clock.time - core.clock.start) core.turn },
     ghost indexed: { Indexed core.tables core.index },
+    ghost gapped: { Gapped core.tables.plans core.slotless },
 }

@@ -21,4 +21,5 @@ invariant_of-result g c =
       timely = started t s;
       turned = c.at-turn.ensures.turned;
       indexed = c.of-index.ensures;
+      gapped = c.all_slotless-slotless.ensures;
     }

@@ -55,3 +55,8 @@ pub invariant_of-self-clause-turned : goal.invariant_of-self-clause-turned
 invariant_of-self-clause-turned g c =
     let s = c.args.self.now in
     rw (c.from.ensures, sym (relent s.core.tables.plans c.from.result)) at c.at-self.ensures.turned
+
+pub invariant_of-self-clause-gapped : goal.invariant_of-self-clause-gapped
+invariant_of-self-clause-gapped g c =
+    let s = c.args.self.now in
+    rw (sym (relent s.core.tables.plans c.from.result)) at s.gapped

@@ -26,3 +26,8 @@ pub invariant_of-self-clause-parted : goal.invariant_of-self-clause-parted
 invariant_of-self-clause-parted g c =
     let s = c.args.self.now in
     rw (sym (relent s.core.tables.plans 0)) at s.parted
+
+pub invariant_of-self-clause-gapped : goal.invariant_of-self-clause-gapped
+invariant_of-self-clause-gapped g c =
+    let s = c.args.self.now in
+    rw (sym (relent s.core.tables.plans 0)) at s.gapped

@@ -14,7 +14,7 @@ invariant_of-self g c =
     let timely : Timely s.core.tables.plans (clock_of c.args.t k.plan k.next k.start) =
     (h.0, h.1, omega (arith, h.2, c.requires.ahead), omega (arith, c.requires.within, s.turned.2, h.2, c.requires.ahead)) in
     let turned = turned_on (plan_at s.core.tables.plans k.plan) (k.time - k.start) (c.args.t - k.start) s.core.turn s.turned (omega (arith, c.requires.ahead)) c.requires.within in
-    (tt, tt, (s.few, (s.planned, (s.framed, (s.slotted, (s.owned, (s.within, (s.parted, (s.ported, (s.joined, (s.bounded, (s.lined, (timely, (turned, (s.indexed, tt)))))))))))))))
+    (tt, tt, (s.few, (s.planned, (s.framed, (s.slotted, (s.owned, (s.within, (s.parted, (s.ported, (s.joined, (s.bounded, (s.lined, (timely, (turned, (s.indexed, (s.gapped, tt))))))))))))))))
 
 pub returns : goal.returns
 returns g c =
