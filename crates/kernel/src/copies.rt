@@ -32,13 +32,13 @@ pub(crate) fn load_message<B: Board>(board: &B, i: usize, at: u32, n: u32, time:
     requires inside { at + n ≤ length (area (B.areas board.now) i) }
     ensures { letter_of result ≡ record { bytes = part (area (B.areas board.now) i) at n; time = time } }
 {
-    let mut bytes = [0; LONGEST];
-    load_into(board, i, at as usize, &mut bytes[0..n as usize]);
-    Message {
-        bytes,
+    let mut message = Message {
+        bytes: [0; LONGEST],
         length: n as usize,
         time,
-    }
+    };
+    load_into(board, i, at as usize, &mut message.bytes[0..n as usize]);
+    message
 }
 
 /// The name of n bytes in a range.

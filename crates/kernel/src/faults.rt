@@ -99,6 +99,7 @@ impl<B: Board> System<B> {
     }
 
     /// Carries a decision out: the log entry first, then the action.
+    // In line: the decision then needs no place in memory.
     #[inline(always)]
     fn carry_out(&mut self, decision: Decision) -> Answer
         requires { Reaches decision.scope }

@@ -33,9 +33,7 @@ fn tell(partition: &mut Partition, port: u8)
     }
 }
 
-// a call of its own: put into its callers, each turn of the loop would set their answer anew
 /// Tells the partition of each open port that hears of the channel.
-#[inline(never)]
 fn alert(directory: &Directory, parts: &mut [Partition; 8], c: ChannelNumber)
     ensures { parts.new ≡ alerted directory.now.tables.now c directory.now.tables.now.ports.count parts.old }
 {

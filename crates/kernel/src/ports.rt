@@ -1,10 +1,12 @@
 // The calls that open ports, and the tests that the calls on messages begin with.
-ghost use Rattle.std.specs.Prelude.{◌≡◌, ℕ, ◌+◌, ◌<◌, ◌≤◌, true, ◌&&◌, IfOk, length, slice_index, slice_index_or};
+ghost use Rattle.std.specs.Prelude.{◌≡◌, ℕ, ◌+◌, ◌<◌, ◌≤◌, true, ◌&&◌, IfOk, IfSome, length, slice_index, slice_index_or};
 ghost use Rattle.machine.specs.Answers.{reply_of};
 ghost use Rattle.machine.specs.declared.answer.Answer.TheVariants.{Port};
 ghost use Rattle.machine.specs.Shapes.{Shaped};
 ghost use Rattle.machine.specs.Partitions.{nobody, is_open};
-ghost use Rattle.machine.specs.Ports.{agrees, deepens};
+ghost use Rattle.vector.specs.Names.{padded};
+ghost use Rattle.machine.specs.Questions.{named};
+ghost use Rattle.machine.specs.Ports.{agrees, deepens, part};
 ghost use Rattle.machine.specs.Ports.{create as create_of};
 ghost use Rattle.machine.specs.Ports.{usable as usable_of};
 ghost use Rattle.machine.specs.Ports.{sendable as sendable_of};
@@ -112,7 +114,21 @@ impl<B: Board> System<B> {
         }
     }
 
+    /// The port of q that has this type and the name of n bytes in a range of its area.
+    // Out of line: the name is put together in memory.
+    #[inline(never)]
+    fn find_named(&self, q: Guest, kind: ChannelKind, at: u32, n: u32) -> Option<u8>
+        requires short { n ≤ 16 }
+        requires inside { at + n ≤ length (area (B.areas self.now.board) q) }
+        ensures is { result ≡ named self.now.core.tables q kind (padded (part (area (B.areas self.now.board) q) at n)) self.now.core.tables.ports.count }
+        ensures there { IfSome result (λ i. i < self.now.core.tables.ports.count) }
+    {
+        let name = load_name(&self.board, q.index(), at, n);
+        Directory::of(&self.core.tables, &self.core.index).find_port(q.number(), kind, &name)
+    }
+
     /// Opens the port of q that has this type and the name in a range of its area.
+    // In line, where its outcome goes on: handed over by its address, the outcome of every call would stay in memory.
     #[inline(always)]
     pub(crate) fn create(&mut self, kind: ChannelKind, q: Guest, args: Args) -> Outcome
         ensures is { gives (world_of B.areas self.new) (reply_of result) ≡ performed (create_of kind) q args (world_of B.areas self.old) }
@@ -122,11 +138,10 @@ impl<B: Board> System<B> {
         if !is_ranged(&self.board, q.index(), args[0], args[1]) || args[1] > 16 || args[3] > 1 {
             return Err(Refusal::InvalidParam);
         }
-        let name = load_name(&self.board, q.index(), args[0], args[1]);
-        let directory = Directory::of(&self.core.tables, &self.core.index);
-        let i = directory
-            .find_port(q.number(), kind, &name)
+        let i = self
+            .find_named(q, kind, args[0], args[1])
             .ok_or(Refusal::InvalidParam)?;
+        let directory = Directory::of(&self.core.tables, &self.core.index);
         if !is_agreeing(&directory, i, kind, &args) {
             return Err(Refusal::InvalidConfig);
         }
