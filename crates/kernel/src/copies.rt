@@ -8,7 +8,7 @@ ghost use Rattle.machine.specs.Ports.{ranged, part, patched};
 
 use board::Board;
 use machine::clock::Time;
-use machine::message::{LONGEST, Message};
+use machine::message::Message;
 use vector::tables::Name;
 
 /// Whether a range lies in the area; the sum of two 32-bit numbers is taken as it is.
@@ -26,19 +26,22 @@ fn load_into<B: Board>(board: &B, i: usize, at: usize, into: &mut [u8])
     let _ = board.load_range(i, at, into);
 }
 
-/// The message of n bytes in a range.
-pub(crate) fn load_message<B: Board>(board: &B, i: usize, at: u32, n: u32, time: Time) -> Message
+/// Makes a message of the n bytes in a range. It is made where it lies: a result would be copied once more.
+pub(crate) fn load_message<B: Board>(
+    m: &mut Message,
+    board: &B,
+    i: usize,
+    at: u32,
+    n: u32,
+    time: Time,
+)
     requires short { n ≤ 64 }
     requires inside { at + n ≤ length (area (B.areas board.now) i) }
-    ensures { letter_of result ≡ record { bytes = part (area (B.areas board.now) i) at n; time = time } }
+    ensures { letter_of m.new ≡ record { bytes = part (area (B.areas board.now) i) at n; time = time } }
 {
-    let mut message = Message {
-        bytes: [0; LONGEST],
-        length: n as usize,
-        time,
-    };
-    load_into(board, i, at as usize, &mut message.bytes[0..n as usize]);
-    message
+    m.length = n as usize;
+    m.time = time;
+    load_into(board, i, at as usize, &mut m.bytes[0..n as usize]);
 }
 
 /// The name of n bytes in a range.

@@ -16,6 +16,7 @@ use board::Board;
 use lookup::{Directory, take_lowest};
 use machine::answer::{Answer, Outcome, Refusal};
 use machine::event::Args;
+use machine::message::Message;
 use machine::partition::Partition;
 use vector::tables::ChannelKind;
 
@@ -55,7 +56,8 @@ impl<B: Board> System<B> {
         ensures { world_of B.areas self.new ≡ with_core (posted self.old.core.tables (core_of self.old.core) c (chan_of self.old.core.channels c ++ (record { bytes = part (area (B.areas self.old.board) q) at n; time = self.old.core.clock.time } ∷ []))) (world_of B.areas self.old) }
     {
         let time = self.core.clock.time;
-        let message = load_message(&self.board, q.index(), at, n, time);
+        let mut message = Message::blank();
+        load_message(&mut message, &self.board, q.index(), at, n, time);
         self.core.channels.append(c, message);
         let directory = Directory::of(&self.core.tables, &self.core.index);
         alert(&directory, &mut self.core.parts, c);
