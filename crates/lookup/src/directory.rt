@@ -1,5 +1,5 @@
 // The ports of the tables: whose they are, and which port a name finds.
-ghost use Rattle.std.specs.Prelude.{◌≡◌, ℕ, ◌<◌, ◌≤◌, ◌&&◌, IfSome, if◌then◌else◌, Some};
+ghost use Rattle.std.specs.Prelude.{◌≡◌, ℕ, ◌<◌, IfSome};
 ghost use Rattle.vector.specs.Names.{same_name};
 ghost use Rattle.machine.specs.Questions.{owns, named};
 ghost use Rattle.machine.specs.Searches.{Found};
@@ -69,6 +69,7 @@ impl<'a> Directory<'a> {
         ensures there { IfSome result (λ i. i < self.now.tables.now.ports.count) }
         ensures found { Found self.now.tables.now q kind name.now }
     {
+        // the highest first: the greatest number is promised, whether or not the names differ
         let mut left = self.ports_of(q, kind);
         while let Some(i) = take_highest(&mut left) {
             if self.is_named(i, name) {

@@ -1,12 +1,10 @@
 // What the core asks of the vector's tables.
-ghost use Rattle.std.specs.Prelude.{◌≡◌, ◌<◌, ◌≤◌, ◌&&◌, IfSome, if◌then◌else◌, Some};
-ghost use Rattle.vector.specs.Names.{same_name};
+ghost use Rattle.std.specs.Prelude.{◌≡◌, ◌<◌, IfSome};
 ghost use Rattle.machine.specs.Partitions.{bit};
 ghost use Rattle.machine.specs.Questions.{exists, is_system, manages, is_source, link, owner};
-ghost use Rattle.machine.specs.Questions.{port as port_at};
-ghost use Rattle.lookup.specs.Bounds.{Ported, Joined, Lined};
+ghost use Rattle.lookup.specs.Bounds.{Lined};
 
-use vector::tables::{ChannelKind, Class, Direction, Name, Tables};
+use vector::tables::{Class, Direction, Tables};
 
 /// Whether the vector has a partition of this number.
 pub fn is_there(tables: &Tables, q: u32) -> bool

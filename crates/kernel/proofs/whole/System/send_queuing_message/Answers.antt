@@ -8,5 +8,7 @@ use Rattle.kernel.proofs.whole.System.send_queuing_message.Goals as goal
 pub returns-in_err-channel-clause-is : goal.returns-in_err-channel-clause-is
 returns-in_err-channel-clause-is g c =
     let s = c.args.self.now in
-    let w = world_of g.B.Board.areas s in
-    search rules ∙ ap (λ o. settled c.args.q o w) (sym (unsent Queuing s.core.tables (core_of s.core) (area w.state.areas c.args.q) c.args.q c.args.args _ c.in_err-channel.field-0.0 (sym c.in_err-channel.ensures.is)))
+    let x = core_of s.core in
+    let a = area (g.B.Board.areas s.board) c.args.q in
+    let no = unsent Queuing s.core.tables x a c.args.q c.args.args _ c.in_err-channel.field-0.0 (sym c.in_err-channel.ensures.is) in
+    search rules ∙ ap (λ o. settled c.args.q o (world_of g.B.Board.areas s)) (sym no)
