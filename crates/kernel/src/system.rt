@@ -41,29 +41,29 @@ impl<B: Board> System<B> {
         ensures is { world_of B.areas result ≡ booted (tables_of vector.entry.bytes.now) (B.areas board) }
         ensures steady { Steady (tables_of vector.entry.bytes.now) (world_of B.areas result).state.core }
     {
-        let tables = vector.tables();
-        let halted = !is_fitting(&tables, &board);
-        let clock = Clock {
-            time: 0,
-            plan: 0,
-            next: 0,
-            start: 0,
-        };
-        let turn = Turn::at(&tables.plans.rows[0], 0, 0);
-        let index = Index::of(&tables);
-        let slotless = all_slotless(&tables.plans);
-        let core = Core {
-            tables,
-            index,
-            slotless,
-            clock,
-            turn,
-            halted,
-            parts: [Partition::new(); 8],
-            channels: Channels::new(),
-            log: Log::new(),
-        };
-        System { board, core }
+        let halted = !is_fitting(vector.shown(), &board);
+        let index = Index::of(vector.shown());
+        let slotless = all_slotless(&vector.shown().plans);
+        let turn = Turn::at(&vector.shown().plans.rows[0], 0, 0);
+        System {
+            board,
+            core: Core {
+                tables: vector.tables(),
+                index,
+                slotless,
+                clock: Clock {
+                    time: 0,
+                    plan: 0,
+                    next: 0,
+                    start: 0,
+                },
+                turn,
+                halted,
+                parts: [Partition::new(); 8],
+                channels: Channels::new(),
+                log: Log::new(),
+            },
+        }
     }
 
     /// The partition of this number, if it is on the processor: it is there and READY, and its slot runs.

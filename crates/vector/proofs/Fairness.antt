@@ -1,5 +1,5 @@
 -- What the core rests on follows from the laws of a taken vector.
-use Rattle.std.proofs.Common.{◌≡◌, ℕ, zero, suc, ◌<◌, ◌≤◌, true, cond, eqb, List, [], ◌∷◌, length, get_or, take, Ok, sym, ap, ◌∙◌, subst, inl, inr, arith}
+use Rattle.std.proofs.Common.{◌≡◌, ℕ, zero, suc, ◌<◌, ◌≤◌, true, cond, eqb, List, [], ◌∷◌, length, get_or, take, sym, ap, ◌∙◌, subst, inl, inr, arith}
 use Rattle.std.proofs.lemmas.List.{get_or-take, length-take}
 use Rattle.std.proofs.lemmas.Bool.{cases_order, cond-true, eq-eqb}
 use Rattle.vector.specs.Blank.{port0}
@@ -8,7 +8,7 @@ use Rattle.vector.specs.Joins.{is_queuing}
 use Rattle.vector.specs.Laws as laws
 use Rattle.vector.specs.Laws.{ports_of, Lawful, Kept}
 use Rattle.vector.specs.Out.{fine}
-use Rattle.vector.specs.Reading.{reading, gathered, takes, tables}
+use Rattle.vector.specs.Reading.{reading, takes, tables}
 use Rattle.vector.specs.declared.sofar.Sofar.{Sofar}
 use Rattle.vector.specs.declared.tables.ChannelKind.{ChannelKind}
 use Rattle.vector.specs.declared.tables.ChannelKind.TheVariants.{Queuing}
@@ -16,7 +16,6 @@ use Rattle.vector.specs.declared.tables.Direction.{Direction}
 use Rattle.vector.specs.declared.tables.Direction.TheVariants.{Source, Destination}
 use Rattle.vector.specs.declared.tables.Port.{Port}
 use Rattle.vector.specs.declared.tables.Tables.{Tables}
-use Rattle.vector.proofs.Outs.{then-fine, same-fine}
 use Rattle.vector.proofs.Keeps.{taken-keeps}
 use Rattle.vector.proofs.Fits.{Fit, fit-kept, fit-nothing}
 use Rattle.vector.proofs.Laws.{read-lawful, taken-read}
@@ -101,17 +100,18 @@ module _ (t : Tables) (l : Lawful t) (size : t.ports.count ≤ length t.ports.ro
   lawful-fair = (within, connected, one-source, one-destination)
 
 -- what is kept by the tables of a reading that came to its end
-read-kept : (bs : List ℕ) (s : Sofar) → reading bs ≡ fine s → Kept (Ok s.tables)
+read-kept : (bs : List ℕ) (s : Sofar) → reading bs ≡ fine s → Kept s.tables
 read-kept bs s e =
     let f = (taken-keeps Fit fit-kept fit-nothing bs s e).0.1 in
     let l = read-lawful bs s e in
     (l.0, l.1, f.partitions.sized, lawful-fair s.tables l.1 (omega (arith, f.wires.size, f.wires.few)))
 
 -- .. and by those that a vector gives
-pub gathered-kept : (bs : List ℕ) (t : Tables) → gathered bs ≡ fine t → Kept (Ok t)
-gathered-kept bs t e =
-    let s = then-fine (reading bs) (λ s. fine s.tables) t e in
-    same-fine (λ t. Kept (Ok t)) s.0.tables t s.2 (read-kept bs s.0 s.1)
+takes-kept : (bs : List ℕ) → takes bs ≡ true → Kept (tables bs)
+takes-kept bs e = let o = taken-read bs e in subst Kept o.1.1 (read-kept bs o.0 o.1.0)
+
+pub given-kept : (bs : List ℕ) (t : Tables) → takes bs ≡ true → t ≡ tables bs → Kept t
+given-kept bs t e g = subst Kept (sym g) (takes-kept bs e)
 
 pub takes-fair : (bs : List ℕ) → takes bs ≡ true → Fair (tables bs)
-takes-fair bs e = let o = taken-read bs e in subst Fair o.1.1 (read-kept bs o.0 o.1.0).3
+takes-fair bs e = (takes-kept bs e).3

@@ -7,7 +7,7 @@ use Rattle.vector.specs.Frames.{Framed, framed}
 use Rattle.vector.specs.Bodies.{Said}
 use Rattle.vector.specs.Turns.{settled, ending}
 use Rattle.vector.specs.Joins.{joined}
-use Rattle.vector.specs.Reading.{read_on, heard, reading, gathered}
+use Rattle.vector.specs.Reading.{read_on, heard}
 use Rattle.vector.specs.Points.{Point, Shown, Step, step_over, step, next, shown, moved}
 use Rattle.vector.specs.declared.sofar.Sofar.{Sofar}
 use Rattle.vector.proofs.Outs.{then-fine, pass-fine, cond-fine, then-bad, pass-bad}
@@ -134,10 +134,3 @@ module _ (p q : Point) where
 
 pub fails : (p : Point) (r : Reason) → bad r ≡ shown (next p) → scan_from p ≡ bad r
 fails p r e = next-bad p.at p.sofar p.rest r (shown-bad (next p) r e)
-
--- what the scan gives is gathered
-pub gathered-bad : (bs : List ℕ) (r : Reason) → reading bs ≡ bad r → bad r ≡ gathered bs
-gathered-bad bs r e = rw e
-
-pub gathered-fine : (bs : List ℕ) (s : Sofar) → reading bs ≡ fine s → fine s.tables ≡ gathered bs
-gathered-fine bs s e = rw e

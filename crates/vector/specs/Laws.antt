@@ -1,5 +1,5 @@
 -- What is true of the tables of every vector that is taken.
-use Rattle.std.specs.Prelude.{◌≡◌, ℕ, ◌+◌, ◌<◌, ◌≤◌, true, cond, List, [], ◌∷◌, ◌++◌, take, Some, None, Ok, Err, Result, ◌==◌, ◌≢◌, slice_index_or}
+use Rattle.std.specs.Prelude.{◌≡◌, ℕ, ◌+◌, ◌<◌, ◌≤◌, true, cond, List, [], ◌∷◌, ◌++◌, take, Some, None, ◌==◌, ◌≢◌, slice_index_or}
 use Rattle.vector.specs.Blank.{slot0, plan0, channel0, port0}
 use Rattle.vector.specs.Encoding.{Bytes, bytes_of}
 use Rattle.vector.specs.Fields.{has_bit}
@@ -10,7 +10,6 @@ use Rattle.vector.specs.Rows.{partition_at, slot_end}
 use Rattle.vector.specs.Joins.{is_queuing}
 use Rattle.vector.specs.Sound.{Sound}
 use Rattle.vector.specs.Fair.{Fair}
-use Rattle.vector.specs.declared.fault.Refusal.{Refusal}
 use Rattle.vector.specs.declared.tables.Channel.{Channel}
 use Rattle.vector.specs.declared.tables.Direction.TheVariants.{Source, Destination}
 use Rattle.vector.specs.declared.tables.Plan.{Plan}
@@ -100,10 +99,9 @@ pub record Lawful (t : Tables) : Type 0 where
   pub links : LinksToOthers t
   pub lines : LinesOwned t
 
--- what is kept by tables that were gathered
-abbrev pub Kept : Result Tables Refusal → Type 0
-Kept (Ok t) = Sound t × Lawful t × AreasSized t × Fair t
-Kept (Err e) = Unit {0}
+-- what is kept by the tables of a vector that is taken
+abbrev pub Kept : Tables → Type 0
+Kept t = Sound t × Lawful t × AreasSized t × Fair t
 
 -- what the reader shows of a record gives back its bytes
 abbrev pub RecordsWritten : Type 0

@@ -1,17 +1,20 @@
 // A vector that was checked: the value that gives the tables, once.
 ghost use Rattle.std.specs.Prelude.{◌≡◌, true};
-ghost use Rattle.vector.specs.Reading.{takes, tables};
+ghost use Rattle.vector.specs.Reading.{takes, tables as tables_of};
 ghost use Rattle.vector.specs.Sound.{Sound};
 ghost use Rattle.vector.specs.Fair.{Fair};
 ghost use Rattle.vector.specs.Laws.{AreasSized, Lawful};
 
-use crate::scan::gather;
+use crate::reader::Records;
+use crate::scan::read_all;
 use crate::tables::Tables;
 
-/// Bytes that are known to be taken. It can be neither copied nor let go: `tables` spends it.
+/// Bytes that are known to be taken, and their tables. It can be neither copied nor let go: `tables` spends it.
 pub struct Checked<'a> {
     pub(crate) bytes: &'a [u8],
+    tables: Tables,
     ghost ok: { takes bytes.now ≡ true },
+    ghost read: { tables ≡ tables_of bytes.now },
 }
 
 impl<'a> Checked<'a> {
@@ -20,20 +23,35 @@ impl<'a> Checked<'a> {
         requires { takes bytes.now ≡ true }
         ensures { result.bytes.now ≡ bytes.now }
     {
-        Checked { bytes }
+        let mut records = Records::of(bytes);
+        match read_all(&mut records) {
+            Ok(()) => Checked {
+                bytes,
+                tables: records.sofar.tables,
+            },
+            Err(_) => unreachable(),
+        }
+    }
+
+    /// The tables, for a look.
+    pub fn shown(&self) -> &Tables
+        ensures value { result.now ≡ tables_of self.now.bytes.now }
+        ensures sound { Sound result.now }
+        ensures lawful { Lawful result.now }
+        ensures areas { AreasSized result.now }
+        ensures fair { Fair result.now }
+    {
+        &self.tables
     }
 
     pub fn tables(self) -> Tables
-        ensures value { result ≡ tables self.entry.bytes.now }
+        ensures value { result ≡ tables_of self.entry.bytes.now }
         ensures sound { Sound result }
         ensures lawful { Lawful result }
         ensures areas { AreasSized result }
         ensures fair { Fair result }
     {
-        let Checked { bytes } = self;
-        match gather(bytes) {
-            Ok(tables) => tables,
-            Err(_) => unreachable(),
-        }
+        let Checked { bytes: _, tables } = self;
+        tables
     }
 }

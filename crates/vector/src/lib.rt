@@ -8,9 +8,9 @@ ghost use Rattle.vector.specs.Out.{out};
 ghost use Rattle.vector.specs.Reasons.{reason};
 ghost use Rattle.vector.specs.Reading.{verdict, verdict_of, gathered};
 
-use crate::checked::Checked;
 use crate::fault::Refusal;
-use crate::scan::gather;
+use crate::reader::Records;
+use crate::scan::read_all;
 use crate::tables::Tables;
 
 pub(crate) mod blank;
@@ -44,14 +44,14 @@ pub fn check(bytes: &[u8]) -> Result<(), Refusal>
     ensures exact { TakenIsValid }
     ensures written { RecordsWritten }
 {
-    let _ = gather(bytes)?;
-    Ok(())
+    read_all(&mut Records::of(bytes))
 }
 
 /// Checks a vector, and gives its tables.
 pub fn read(bytes: &[u8]) -> Result<Tables, Refusal>
     ensures { out reason (λ t. t) result ≡ gathered bytes.now }
 {
-    check(bytes)?;
-    Ok(Checked::new(bytes).tables())
+    let mut records = Records::of(bytes);
+    read_all(&mut records)?;
+    Ok(records.sofar.tables)
 }

@@ -1,20 +1,16 @@
-// The tables that the records of a vector give.
+// A vector, to its end.
 ghost use Rattle.std.specs.Prelude.{◌≡◌};
-ghost use Rattle.vector.specs.Laws.{Kept};
 ghost use Rattle.vector.specs.Out.{out};
-ghost use Rattle.vector.specs.Reading.{gathered};
+ghost use Rattle.vector.specs.Reading.{read_on};
 ghost use Rattle.vector.specs.Reasons.{reason};
 
 use crate::fault::Refusal;
 use crate::reader::Records;
-use crate::tables::Tables;
 
-/// The tables, with all that is true of them, or the first refusal.
-pub(crate) fn gather(bytes: &[u8]) -> Result<Tables, Refusal>
-    ensures is { out reason (λ t. t) result ≡ gathered bytes.now }
-    ensures kept { Kept result }
+/// Reads the records that are left, or gives the first refusal.
+pub(crate) fn read_all(records: &mut Records) -> Result<(), Refusal>
+    ensures { out reason (λ _. records.new.sofar) result ≡ read_on 0 records.old.at records.old.sofar records.old.rest.now }
 {
-    let mut records = Records::of(bytes);
     while let Some(_) = records.next_record()? {}
-    Ok(records.sofar.tables)
+    Ok(())
 }

@@ -113,27 +113,26 @@ fn show_answers<W: Write>(history: &[Exchange], writer: &mut W) -> io::Result<()
     Ok(())
 }
 
-// A boot spends a `Checked` and there are two boots, so that the bytes are taken is asked of both functions below.
 /// Boots the vector on a board, takes the history, and prints the board's heading, each answer, and the areas of the first
 /// `shown` partitions. The history has the machine's answers afterwards, also where a print fails.
 fn play<B: Board + Drop, W: Write>(
     heading: &str,
-    bytes: &[u8],
+    vector: Checked,
     board: B,
     history: &mut [Exchange],
     shown: u8,
     writer: &mut W,
 ) -> io::Result<()>
-    requires { takes bytes.now ≡ true }
-    ensures answered { lines_of history.new ≡ lines (tables_of bytes.now) (boot_of (tables_of bytes.now) (B.areas board)) (events_of history.old) }
-    ensures printed { OnOk result (Appends (W.contents writer.old) (W.contents writer.new) (board_text heading.now (tables_of bytes.now) (B.areas board) (events_of history.old) shown)) }
+    ensures answered { lines_of history.new ≡ lines (tables_of vector.entry.bytes.now) (boot_of (tables_of vector.entry.bytes.now) (B.areas board)) (events_of history.old) }
+    ensures printed { OnOk result (Appends (W.contents writer.old) (W.contents writer.new) (board_text heading.now (tables_of vector.entry.bytes.now) (B.areas board) (events_of history.old) shown)) }
 {
-    let system = run(Checked::new(bytes), board, history);
+    let system = run(vector, board, history);
     writer.writeln(heading)?;
     show_answers(history, writer)?;
     show_areas(&system, shown, writer)
 }
 
+// A boot spends a `Checked` and there are two boots, so that the bytes are taken is asked here.
 /// Plays a history on the fenced and on the paged board. Their areas are the same, and so are the answers.
 fn play_each<W: Write>(
     bytes: &[u8],
@@ -145,10 +144,13 @@ fn play_each<W: Write>(
     ensures answered { lines_of history.new ≡ lines (tables_of bytes.now) (boot_of (tables_of bytes.now) (zeroed (tables_of bytes.now))) (events_of history.old) }
     ensures printed { OnOk result (Appends (W.contents writer.old) (W.contents writer.new) (boards_text (tables_of bytes.now) (events_of history.old) wanted)) }
 {
-    let tables = Checked::new(bytes).tables();
-    let shown = wanted.areas(&tables);
-    play("fenced", bytes, fenced(&tables), history, shown, writer)?;
-    play("paged", bytes, paged(&tables), history, shown, writer)
+    let vector = Checked::new(bytes);
+    let shown = wanted.areas(vector.shown());
+    let board = fenced(vector.shown());
+    play("fenced", vector, board, history, shown, writer)?;
+    let vector = Checked::new(bytes);
+    let board = paged(vector.shown());
+    play("paged", vector, board, history, shown, writer)
 }
 
 /// Reads a script, and prints what it is answered and nothing else.

@@ -1,4 +1,4 @@
-use Rattle.std.proofs.Common.{ℕ, List, ap, ◌∙◌}
+use Rattle.std.proofs.Common.{ℕ, List, ap, ap₂, ◌∙◌}
 use Rattle.std.proofs.lemmas.Result.{on_ok_weaker}
 use Rattle.vector.specs.Reading.{tables}
 use Rattle.vector.specs.declared.tables.Tables.{Tables}
@@ -14,24 +14,24 @@ use Rattle.xmscript.proofs.play_each.Goals as goal
 pub returns-clause-answered : goal.returns-clause-answered
 returns-clause-answered g c =
     let t = tables c.args.bytes.now in
-    let read = c.tables-tables.ensures.value ∙ ap tables c.new.ensures in
+    let read = ap tables c.new-vector-2.ensures in
     c.play-2.ensures.answered
-    ∙ ap (λ (ms : List (List ℕ)). lines t (boot t ms) (events_of c.play.new.history)) (c.paged.ensures.areas ∙ ap zeroed read)
+    ∙ ap₂ (λ (k : Tables) (ms : List (List ℕ)). lines k (boot k ms) (events_of c.play.new.history)) read (c.paged-board.ensures.areas ∙ ap zeroed (c.shown-3.ensures.value ∙ read))
     ∙ ap (λ (es : List Event). lines t (boot t (zeroed t)) es) (events-kept _ _ _ _ c.play.ensures.answered)
 
 pub returns-in_err-play-clause-answered : goal.returns-in_err-play-clause-answered
 returns-in_err-play-clause-answered g c =
-    let t = tables c.args.bytes.now in
-    let read = c.tables-tables.ensures.value ∙ ap tables c.new.ensures in
+    let read = ap tables c.new-vector.ensures in
     c.play.ensures.answered
-    ∙ ap (λ (ms : List (List ℕ)). lines t (boot t ms) (events_of c.args.history.now)) (c.fenced.ensures.areas ∙ ap zeroed read)
+    ∙ ap₂ (λ (k : Tables) (ms : List (List ℕ)). lines k (boot k ms) (events_of c.args.history.now)) read (c.fenced-board.ensures.areas ∙ ap zeroed (c.shown-2.ensures.value ∙ read))
 
 pub returns-clause-printed : goal.returns-clause-printed
 returns-clause-printed g c =
-    let read = c.tables-tables.ensures.value ∙ ap tables c.new.ensures in
-    let shown = c.areas-shown.ensures ∙ ap (λ (k : Tables). areas_of c.args.wanted k) read in
+    let one = ap tables c.new-vector.ensures in
+    let two = ap tables c.new-vector-2.ensures in
+    let shown = c.areas-shown.ensures ∙ ap (λ (k : Tables). areas_of c.args.wanted k) (c.shown.ensures.value ∙ one) in
     on_ok_weaker c.play-2.result
-    (boards-printed _ _ _ (tables c.args.bytes.now) (events_of c.args.history.now) c.args.wanted _ shown _ _ _
-    (c.fenced.ensures.areas ∙ ap zeroed read) (c.paged.ensures.areas ∙ ap zeroed read)
+    (boards-printed _ _ _ (tables c.args.bytes.now) (events_of c.args.history.now) c.args.wanted _ shown _ _ _ _ _ one two
+    (c.fenced-board.ensures.areas ∙ ap zeroed (c.shown-2.ensures.value ∙ one)) (c.paged-board.ensures.areas ∙ ap zeroed (c.shown-3.ensures.value ∙ two))
     (events-kept _ _ _ _ c.play.ensures.answered) c.in_ok-play.ensures.printed)
     c.play-2.ensures.printed

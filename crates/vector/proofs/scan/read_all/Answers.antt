@@ -2,17 +2,13 @@ use Rattle.std.proofs.Common.{sym, ap, ◌∙◌}
 use Rattle.std.proofs.lemmas.Result.{err_from_is_err_and}
 use Rattle.vector.specs.Out.{fine}
 use Rattle.vector.specs.Points.{point_of, shown_of}
-use Rattle.vector.proofs.Fairness.{gathered-kept}
-use Rattle.vector.proofs.Scans.{goes_on, stops, fails, gathered-bad, gathered-fine}
-use Rattle.vector.proofs.scan.gather.Goals as goal
+use Rattle.vector.proofs.Scans.{goes_on, stops, fails}
+use Rattle.vector.proofs.scan.read_all.Goals as goal
 
 pub returns-in_err-next_record : goal.returns-in_err-next_record
 returns-in_err-next_record c =
     let p = err_from_is_err_and c.from_residual.result c.from_residual.ensures.1 in
-    record {
-      is = rw (p.1, p.2) (gathered-bad c.args.bytes.now _ (sym c.loop.invariant ∙ fails (point_of c.loop.records) _ c.in_err-next_record.ensures.answer));
-      kept = rw p.1 tt;
-    }
+    rw (p.1, p.2) (sym (sym c.loop.invariant ∙ fails (point_of c.loop.records) _ c.in_err-next_record.ensures.answer))
 
 pub loop-smaller : goal.loop-smaller
 loop-smaller c =
@@ -26,7 +22,5 @@ loop-preserved c =
 
 pub returns : goal.returns
 returns c =
-    let bs = c.args.bytes.now in
     let e = c.in_ok-next_record.ensures in
-    let is = gathered-fine bs _ (sym c.loop.invariant ∙ stops (point_of c.loop.records) (point_of c.next_record.new.self) (ap (λ o. fine (shown_of o)) (sym c.in_default.is) ∙ e.answer) e.after) in
-    record { is = is; kept = gathered-kept bs _ (sym is) }
+    sym (sym c.loop.invariant ∙ stops (point_of c.loop.records) (point_of c.next_record.new.self) (ap (λ o. fine (shown_of o)) (sym c.in_default.is) ∙ e.answer) e.after)
