@@ -49,6 +49,21 @@ fn answer_all<B: Board>(
     Ok(count)
 }
 
+// The system begins here, where the board is made already: it is then made in its place, and not filled with zeros before.
+/// Boots a checked vector on a board, and takes the records.
+fn play<B: Board + Drop>(
+    vector: Checked,
+    board: B,
+    records: &[u8],
+    answers: &mut [u8],
+) -> Result<usize, EntranceError>
+    ensures ending { ending_of result ≡ records_end (read_of records.now) (room_in answers.old) }
+    ensures bytes { answers.new ≡ written (booted (tables_of vector.entry.bytes.now) (B.areas board)) (read_of records.now) answers.old }
+{
+    let mut system = System::boot(vector, board);
+    answer_all(&mut system, records, answers)
+}
+
 /// Boots a vector on a fenced board of zeros, takes the event records one after another, and writes each answer as 12 bytes:
 /// code, a and b, each with the low byte first. The result is the number of events answered, where all are. What was written
 /// before an error stays, and nothing else of the answers changes. The records are read as a script's are.
@@ -59,7 +74,7 @@ pub fn run(vector: &[u8], records: &[u8], answers: &mut [u8]) -> Result<usize, E
     ensures read { events_of records.now ≡ events_in (read_of records.now) }
 {
     check(vector)?;
-    let tables = Checked::new(vector).tables();
-    let mut system = System::boot(Checked::new(vector), fenced(&tables));
-    answer_all(&mut system, records, answers)
+    let vector = Checked::new(vector);
+    let board = fenced(vector.shown());
+    play(vector, board, records, answers)
 }

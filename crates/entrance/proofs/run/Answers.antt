@@ -7,7 +7,7 @@ use Rattle.entrance.proofs.run.Goals as goal
 
 pub returns-clause-bytes : goal.returns-clause-bytes
 returns-clause-bytes c =
-    let read = c.tables-tables.ensures.value ∙ ap tables c.new.ensures in
-    let start = c.boot-system.ensures.is ∙ ap₂ booted (ap tables c.new-2.ensures) (c.fenced.ensures.areas ∙ ap zeroed read) in
+    let read = c.shown.ensures.value ∙ ap tables c.new-vector.ensures in
+    let start = ap₂ booted (ap tables c.new-vector.ensures) (c.fenced-board.ensures.areas ∙ ap zeroed read) in
     let taken : takes c.args.vector.now ≡ true = search rules in
-    rw taken (c.answer_all.ensures.bytes ∙ ap (λ (w : World). written w (read_of c.args.records.now) c.args.answers.now) start)
+    rw taken (c.play.ensures.bytes ∙ ap (λ (w : World). written w (read_of c.args.records.now) c.args.answers.now) start)
