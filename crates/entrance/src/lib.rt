@@ -49,7 +49,8 @@ fn answer_all<B: Board>(
     Ok(count)
 }
 
-// The system begins here, where the board is made already: it is then made in its place, and not filled with zeros before.
+// A value is filled with zeros where its function begins. Here the board is made before that, so the compiler sees that boot writes
+// over most of the zeros, and leaves those out.
 /// Boots a checked vector on a board, and takes the records.
 fn play<B: Board + Drop>(
     vector: Checked,
