@@ -41,10 +41,11 @@ impl<B: Board> System<B> {
         ensures is { world_of B.areas result ≡ booted (tables_of vector.entry.bytes.now) (B.areas board) }
         ensures steady { Steady (tables_of vector.entry.bytes.now) (world_of B.areas result).state.core }
     {
-        let halted = !is_fitting(vector.shown(), &board);
-        let index = Index::of(vector.shown());
-        let slotless = all_slotless(&vector.shown().plans);
-        let turn = Turn::at(&vector.shown().plans.rows[0], 0, 0);
+        let tables = vector.shown();
+        let halted = !is_fitting(tables, &board);
+        let index = Index::of(tables);
+        let slotless = all_slotless(&tables.plans);
+        let turn = Turn::at(&tables.plans.rows[0], 0, 0);
         System {
             board,
             core: Core {

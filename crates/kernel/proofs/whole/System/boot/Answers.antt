@@ -12,7 +12,7 @@ invariant_of-result g c =
     let t = c.tables.result in
     let s = c.tables.ensures.sound in
     let f = c.tables.ensures.fair in
-    let same = c.shown-2.ensures.value ∙ sym c.tables.ensures.value in
+    let same = c.shown-tables.ensures.value ∙ sym c.tables.ensures.value in
     record {
       few = s.1;
       planned = planned t s;
