@@ -1,4 +1,4 @@
-// The bits of a mask, one at a time from either end.
+// The bits of a mask, one at a time from either end. Both are in line, since a loop over a mask is short.
 ghost use Rattle.std.specs.Prelude.{◌≡◌, MatchOption};
 ghost use Rattle.lookup.specs.Masks.{Lowest, Highest};
 
