@@ -1,6 +1,8 @@
 -- Bytes that come to lie in an area, one stretch of the memory after another.
-use Rattle.std.proofs.Common.{◌≡◌, ℕ, zero, suc, ◌+◌, ◌-◌, ◌<◌, ◌≤◌, List, [], ◌++◌, length, get_or, take, drop, set, replicate, take-add, refl, sym, ap, ◌∙◌, arith}
+use Rattle.std.proofs.Common.{◌≡◌, ℕ, zero, suc, ◌+◌, ◌-◌, ◌<◌, ◌≤◌, false, List, [], ◌++◌, length, get_or, take, drop, set, replicate, take-add, refl, sym, ap, ◌∙◌, arith}
 use lib.Seq.{paste, paste-zero, paste-suc, length-paste}
+use Rattle.std.proofs.Math.Dec.{eqb}
+use Rattle.std.proofs.lemmas.Bool.{eqb-false}
 use Rattle.std.proofs.lemmas.List.{get_or-set_same, set-set, set-get_or, get_or-take, get_or-drop, length-take, length-drop, length-replicate, take-replicate, drop-replicate, append-nil, drop_all, take_all, drop-drop, ext_get_or}
 use Rattle.std.proofs.lemmas.List.Edits.{paste_all}
 use Rattle.std.proofs.lemmas.Slice.{put_mid-paste, take-put_mid}
@@ -69,6 +71,12 @@ room {n} {view} {size} {place} {stretch} w i at h =
     let ends = w.ends i at h in
     let last = w.straight i at (stretch i at - 1) h (omega arith) in
     let within = w.within i (at + (stretch i at - 1)) (omega arith) in
+    omega arith
+
+-- a range that is not empty begins at a byte of the area
+pub begins : (at k size : ℕ) → at + k ≤ size → false ≡ eqb k 0 → at < size
+begins at k size h e =
+    let some : k ≡ 0 → ⊥ = eqb-false k 0 (sym e) in
     omega arith
 
 abbrev pub zeros : ℕ → List ℕ

@@ -32,6 +32,32 @@ pub(crate) fn load<L: Layout<N>, const N: usize>(
     requires inside { at + length into.old ≤ L.sizes layout.now i }
     ensures { into.new ≡ take (length into.old) (drop at (area (L.view layout.now memory.now) i)) }
 {
+    if into.is_empty() {
+        return;
+    }
+    if layout.stretch(i, at) < into.len() {
+        load_stretches(layout, memory, i, at, into);
+        return;
+    }
+    let p = layout.place(i, at);
+    into.copy_from_slice(&memory[p..p + into.len()]);
+}
+
+// Fills a buffer from one stretch after another.
+// Seldom run, only for a range that spans pages: not inlined, so that the callers of `load` stay short.
+#[inline(never)]
+fn load_stretches<L: Layout<N>, const N: usize>(
+    layout: &L,
+    memory: &[u8],
+    i: usize,
+    at: usize,
+    into: &mut [u8],
+)
+    requires whole { length memory.now ≡ N }
+    requires fits { at + length into.old < 2 ^ 64 }
+    requires inside { at + length into.old ≤ L.sizes layout.now i }
+    ensures { into.new ≡ take (length into.old) (drop at (area (L.view layout.now memory.now) i)) }
+{
     let len = into.len();
     let mut done = 0;
     while done < len {
@@ -44,6 +70,32 @@ pub(crate) fn load<L: Layout<N>, const N: usize>(
 
 /// Lays bytes in an area.
 pub(crate) fn store<L: Layout<N>, const N: usize>(
+    layout: &L,
+    memory: &mut [u8],
+    i: usize,
+    at: usize,
+    bytes: &[u8],
+)
+    requires whole { length memory.old ≡ N }
+    requires fits { at + length bytes.now < 2 ^ 64 }
+    requires inside { at + length bytes.now ≤ L.sizes layout.now i }
+    ensures { L.view layout.now memory.new ≡ slice_set (L.view layout.now memory.old) i (take at (area (L.view layout.now memory.old) i) ++ (bytes.now ++ drop (at + length bytes.now) (area (L.view layout.now memory.old) i))) }
+{
+    if bytes.is_empty() {
+        return;
+    }
+    if layout.stretch(i, at) < bytes.len() {
+        store_stretches(layout, memory, i, at, bytes);
+        return;
+    }
+    let p = layout.place(i, at);
+    memory[p..p + bytes.len()].copy_from_slice(bytes);
+}
+
+// Lays bytes in one stretch after another.
+// Seldom run, only for a range that spans pages: not inlined, so that the callers of `store` stay short.
+#[inline(never)]
+fn store_stretches<L: Layout<N>, const N: usize>(
     layout: &L,
     memory: &mut [u8],
     i: usize,

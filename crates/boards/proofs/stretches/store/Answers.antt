@@ -1,36 +1,39 @@
-use Rattle.std.proofs.Common.{◌≡◌, ◌∙◌, ◌+◌, ◌-◌, ◌<◌, ap, take, drop, arith}
-use Rattle.boards.proofs.Stretching.{begun, put_more, room, all_laid}
+use Rattle.std.proofs.Common.{◌≡◌, ◌∙◌, ◌+◌, sym, length, arith}
+use Rattle.std.proofs.lemmas.Bool.{eqb-true}
+use Rattle.std.proofs.lemmas.List.{take_all}
+use Rattle.boards.proofs.Stretching.{begins, begun, put_more, room, all_laid}
 use Rattle.boards.proofs.stretches.store.Goals as goal
 
-pub loop-done-init : goal.loop-done-init
-loop-done-init g c = (omega arith, begun (g.L.Layout.view c.args.layout.now c.args.memory.now) c.args.i c.args.at c.args.bytes.now)
+pub returns-then-is_empty : goal.returns-then-is_empty
+returns-then-is_empty g c =
+    let areas = g.L.Layout.view c.args.layout.now c.args.memory.now in
+    let none : length c.args.bytes.now ≡ 0 = eqb-true _ _ (sym c.if-is_empty.ensures) in
+    all_laid areas areas c.args.i c.args.at 0 c.args.bytes.now (begun areas c.args.i c.args.at c.args.bytes.now) (sym none)
 
-pub overflow_add-at : goal.overflow_add-at
-overflow_add-at g c = omega (arith, c.requires.fits)
-
-pub overflow_add-at-in-loop-done : goal.overflow_add-at-in-loop-done
-overflow_add-at-in-loop-done g c = omega (arith, c.requires.fits)
+pub overflow_add-p : goal.overflow_add-p
+overflow_add-p g c =
+    let h = begins c.args.at (length c.args.bytes.now) _ c.requires.inside c.if-is_empty.ensures in
+    let r = room (g.L.Layout.laws c.args.layout.now) c.args.i c.args.at h in
+    let f = g.N.fits in
+    omega arith
 
 pub slice_bounds-copy_from_slice-end : goal.slice_bounds-copy_from_slice-end
 slice_bounds-copy_from_slice-end g c =
-    let r = room (g.L.Layout.laws c.args.layout.now) c.args.i (c.args.at + c.loop-done.done) (omega (arith, c.requires.inside)) in
+    let h = begins c.args.at (length c.args.bytes.now) _ c.requires.inside c.if-is_empty.ensures in
+    let r = room (g.L.Layout.laws c.args.layout.now) c.args.i c.args.at h in
     omega arith
-
-pub loop-done-preserved : goal.loop-done-preserved
-loop-done-preserved g c =
-    let laws = g.L.Layout.laws c.args.layout.now in
-    let done = c.loop-done.done in
-    let k = c.min-n.result in
-    let i = c.args.i in
-    let h : c.args.at + done < g.L.Layout.sizes c.args.layout.now i = omega (arith, c.requires.inside) in
-    let e : done + k - done ≡ k = omega arith in
-    let same : c.copy_from_slice.new.self ≡ take k (drop done c.args.bytes.now) =
-    c.copy_from_slice.ensures.after ∙ ap (λ n. take n (drop done c.args.bytes.now)) e in (
-      omega arith,
-      put_more laws c.args.memory.now c.requires.whole i c.args.at c.args.bytes.now c.loop-done.memory c.copy_from_slice.new.self done (c.args.at + done) c.place-p.result k _
-          (c.loop-done.auto.memory ∙ c.requires.whole) c.loop-done.invariant.1 same (omega arith) (omega arith) h c.place-p.ensures (omega arith) (omega arith),
-    )
 
 pub returns : goal.returns
 returns g c =
-    all_laid (g.L.Layout.view c.args.layout.now c.args.memory.now) _ c.args.i c.args.at c.loop-done.done c.args.bytes.now c.loop-done.invariant.1 (omega arith)
+    let bytes = c.args.bytes.now in
+    let k = length bytes in
+    let i = c.args.i in
+    let at = c.args.at in
+    let memory = c.args.memory.now in
+    let areas = g.L.Layout.view c.args.layout.now memory in
+    let h = begins at k _ c.requires.inside c.if-is_empty.ensures in
+    let same = c.copy_from_slice.ensures.after ∙ sym (take_all k bytes (omega arith)) in
+    all_laid areas _ i at (0 + k) bytes
+    (put_more (g.L.Layout.laws c.args.layout.now) memory c.requires.whole i at bytes memory c.copy_from_slice.new.self 0 at c.place-p.result k _ c.requires.whole
+    (begun areas i at bytes) same (omega arith) (omega arith) h c.place-p.ensures (omega arith) (omega arith))
+    (omega arith)

@@ -1,6 +1,6 @@
 use Rattle.std.proofs.Common.{◌≡◌, ◌≤◌, ◌-◌, take, drop}
 use Rattle.board.specs.Areas.{area}
-use Rattle.boards.proofs.stretches.load.Given as goal
+use Rattle.boards.proofs.stretches.load_stretches.Given as goal
 
 -- the bytes so far are those of the area
 abbrev pub invariant-loop-done : goal.invariant-loop-done

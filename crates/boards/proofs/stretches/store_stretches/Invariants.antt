@@ -1,6 +1,6 @@
 use Rattle.std.proofs.Common.{◌≡◌, ◌≤◌, ◌-◌}
 use Rattle.boards.proofs.Stretching.{laid}
-use Rattle.boards.proofs.stretches.store.Given as goal
+use Rattle.boards.proofs.stretches.store_stretches.Given as goal
 
 -- the bytes so far lie in the area
 abbrev pub invariant-loop-done : goal.invariant-loop-done
