@@ -57,7 +57,7 @@ struct xm_answer {
  * The result is the number of events answered, if all are. It is XM_RUN_FAILED
  *   - where the vector is refused (xm_vector.h says why): nothing is written;
  *   - at a record that is cut, of no kind, or of a wrong length: the events before it are taken and answered;
- *   - where a record is left and the answers have no room for 12 more bytes: the events before it are taken and answered.
+ *   - where a record is left and the answers have no room for XM_ANSWER_BYTES more: the events before it are taken and answered.
  * A record's form comes before its room. Bytes of the answers that no answer was put into stay as they were.
  *
  * Vector and records are read, and neither kept nor changed. The answers must not overlap them. A null pointer is no range of

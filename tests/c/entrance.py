@@ -10,6 +10,7 @@ from machine import boot
 from vector import VectorRefused, check
 
 ANSWER = struct.Struct("<iII")
+ANSWER_BYTES = ANSWER.size
 FAILED = 2**64 - 1
 
 ANSWERED, REFUSED, MALFORMED, NO_ROOM = "all answered", "vector refused", "malformed record", "no room"
@@ -25,7 +26,7 @@ class Ending:
     @property
     def number(self) -> int:
         """What the function returns."""
-        return len(self.answers) // ANSWER.size if self.how == ANSWERED else FAILED
+        return len(self.answers) // ANSWER_BYTES if self.how == ANSWERED else FAILED
 
 
 def play(vector: bytes, records: bytes, room: int) -> Ending:
@@ -41,7 +42,7 @@ def play(vector: bytes, records: bytes, room: int) -> Ending:
             event, place = script.read_event(records, place)
         except script.BadScript:
             return Ending(MALFORMED, answers)
-        if len(answers) + ANSWER.size > room:
+        if len(answers) + ANSWER_BYTES > room:
             return Ending(NO_ROOM, answers)
         answer = script.step(system, event).answer
         answers += ANSWER.pack(answer.code, answer.a, answer.b)

@@ -9,7 +9,7 @@ from random import Random
 from typing import Iterator
 
 from common import EXAMPLES, INCLUDE, LIBRARIES, ROOT, Tally, run
-from entrance import ANSWER, ANSWERED, MALFORMED, NO_ROOM, REFUSED, Ending, play
+from entrance import ANSWER, ANSWER_BYTES, ANSWERED, MALFORMED, NO_ROOM, REFUSED, Ending, play
 from vectors import TAKEN, model_says
 
 import encode
@@ -68,7 +68,7 @@ def chosen_scripts() -> Iterator[tuple[str, bytes]]:
 def rooms(rng: Random, needed: int) -> list[int]:
     """Rooms for the answers: none, all of it and more, and less, also with a part of an answer's bytes."""
     less = rng.randrange(needed) if needed else 0
-    return [0, needed, needed + rng.randrange(1, 2 * ANSWER.size), less]
+    return [0, needed, needed + rng.randrange(1, 2 * ANSWER_BYTES), less]
 
 
 # What must come of them
@@ -85,7 +85,7 @@ def expected_print(vector: bytes, records: bytes) -> tuple[bytes, int]:
     number, says, status = model_says(vector)
     if number != TAKEN:
         return says, status
-    ending = play(vector, records, len(records) * ANSWER.size)
+    ending = play(vector, records, len(records) * ANSWER_BYTES)
     lines = [answer_line(number, answer) for number, answer in enumerate(ANSWER.iter_unpack(ending.answers), 1)]
     if ending.how == MALFORMED:
         lines.append(f"event record {len(lines) + 1}, at byte {end_of(records, len(lines))} of the records, is cut,"
@@ -119,7 +119,7 @@ def compare_runs(tally: Tally, folder: Path) -> None:
         vector, records = pieces(data)
         for path, content in zip(files, (vector, records, data)):
             path.write_bytes(content)
-        whole = play(vector, records, len(records) * ANSWER.size)
+        whole = play(vector, records, len(records) * ANSWER_BYTES)
         for room in rooms(rng, len(whole.answers)):
             ending = play(vector, records, room)
             tally.reached[ending.how] += 1

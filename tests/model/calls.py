@@ -1,4 +1,4 @@
-"""The 25 calls of a guest that is on the processor.
+"""The calls of a guest that is on the processor.
 
 Each call first tests what can be refused, in the order of the refusals, and then
 changes the system.  `system` is the machine, `caller` the calling partition.
@@ -349,3 +349,4 @@ CALLS = (
     reset_system,
     halt_system,
 )
+CALL_COUNT = len(CALLS)  # a call's number is below this

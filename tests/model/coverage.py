@@ -10,6 +10,7 @@ from __future__ import annotations
 from collections import Counter
 from dataclasses import dataclass, field
 
+from calls import CALL_COUNT
 from events import Call, Event, Fault, Line, Load, Store, SystemFault, Tick
 from limits import Limits
 from script import Run
@@ -144,15 +145,12 @@ class Coverage:
     def required_calls(self) -> set[tuple[int, int | str, str]]:
         wanted = set()
         for number, causes in CALL_CAUSES.items():
-            if number < self.limits.calls:
-                wanted |= {(number, code, cause) for code, cause in dict_pairs(causes)}
-                wanted.add((number, TAKEN, ""))
-            else:
-                wanted.add((number, -2, "no such call"))
+            wanted |= {(number, code, cause) for code, cause in dict_pairs(causes)}
+            wanted.add((number, TAKEN, ""))
             wanted.add((number, -9, "not on the processor"))
             if self.can_halt():
                 wanted.add((number, -10, "system halted"))
-        wanted |= {(number, -2, "no such call") for number in (25, 255)}
+        wanted |= {(number, -2, "no such call") for number in (CALL_COUNT, 255)}
         return wanted
 
     def required_events(self) -> set[tuple[str, int]]:
@@ -197,11 +195,11 @@ class Coverage:
         return lines
 
     def call_table(self) -> list[str]:
-        by_code = summed(self.calls, lambda key: (min(key[0], 25), key[1]))
+        by_code = summed(self.calls, lambda key: (min(key[0], CALL_COUNT), key[1]))
         codes = [TAKEN, -1, -2, -3, -4, -5, -6, -7, -9, -10]
         lines = ["call " + "".join(f"{code:>7}" for code in codes)]
-        for number in range(26):
-            name = f"{number:4}" if number < 25 else " 25+"
+        for number in range(CALL_COUNT + 1):
+            name = f"{number:4}" if number < CALL_COUNT else f"{number:3}+"
             row = (by_code.get((number, code)) for code in codes)
             lines.append(f"{name} " + "".join(f"{count or '.':>7}" for count in row))
         return lines

@@ -3,7 +3,9 @@
 from __future__ import annotations
 
 import encode
+from calls import CALL_COUNT
 from events import Call, Fault, Line, Load, Store, SystemFault, Tick
+from machine import FURTHEST_TICK
 from stage import Stage
 from vector import ChannelType
 
@@ -576,7 +578,7 @@ def system_resets(stage: Stage) -> None:
 
 def after_the_halt(stage: Stage) -> None:
     """Every sort of event, and every call, of a halted system."""
-    for number in (*range(26), 255):
+    for number in (*range(CALL_COUNT + 1), 255):
         for caller in (S, A, NOBODY):
             stage.call(caller, number)
     for event in (Tick(0), Tick(stage.system.now), Tick(stage.system.now + 1), Tick(WORD),
@@ -599,7 +601,7 @@ def halt_by_fault(stage: Stage) -> None:
 
 
 def not_on_the_processor(stage: Stage) -> None:
-    for number in (*range(26), 255):
+    for number in (*range(CALL_COUNT + 1), 255):
         for caller in (A, B, T, NOBODY, 7, 8, 255):
             stage.call(caller, number, *[WORD] * 5)
     for guest in (A, B, T, NOBODY, 8, 255):
@@ -613,8 +615,8 @@ def time_goes_far(stage: Stage) -> None:
     """A long way at once: frames and plans pass, an idle partition wakes."""
     stage.call_by(S, 7, 1)
     stage.call_by(A, 6)
-    stage.send(Tick(stage.system.now + 1_000_001))
-    stage.send(Tick(stage.system.now + 1_000_000))
+    stage.send(Tick(stage.system.now + FURTHEST_TICK + 1))
+    stage.send(Tick(stage.system.now + FURTHEST_TICK))
     inspect(stage)
 
 

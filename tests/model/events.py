@@ -7,9 +7,12 @@ from enum import IntEnum
 from typing import NamedTuple, Union
 
 
+Time = int  # a time or a length of time, in microseconds
+
+
 @dataclass(frozen=True)
 class Tick:
-    time: int
+    time: Time
 
 
 @dataclass(frozen=True)

@@ -11,13 +11,13 @@ from collections import deque
 
 import calls
 from events import (Answer, Call, Event, Fault, Line, Load, Refusal, Refused, Store,
-                    SystemFault, Tick)
+                    SystemFault, Tick, Time)
 from limits import WHOLE, Limits
 from state import (FAULT_BIT, FIRST_LINE_BIT, MEM_PROTECTION, PARTITION_ERROR, Action,
                    LogEntry, Message, Mode, Partition, State)
-from vector import SYSTEM_EVENTS, SYSTEM_SCOPE, Decision, Tables
+from vector import SYSTEM_EVENTS, SYSTEM_SCOPE, Decision, Offset, Tables
 
-FURTHEST_TICK = 1_000_000  # microseconds ahead of now
+FURTHEST_TICK: Time = 1_000_000  # ahead of now
 LOG_LENGTH = 32
 LINES = 16
 
@@ -44,17 +44,17 @@ class System:
         self.tables = tables
         self.areas = areas
         self.limits = limits
-        self.now = 0
+        self.now: Time = 0
         self.plan = 0
         self.next_plan = 0
-        self.frame_start = 0
+        self.frame_start: Time = 0
         self.log: deque[LogEntry] = deque(maxlen=LOG_LENGTH)  # a full one drops its oldest
         self.halted = not self.board_fits()
         self.partitions = [Partition() for _ in tables.partitions]
         self.channels: list[deque[Message]] = [deque() for _ in tables.channels]
         # For each plan, the partition whose slot starts at an offset in the frame.
-        self.slot_starts = [{slot.start: slot.partition for slot in plan.slots}
-                            for plan in tables.plans]
+        self.slot_starts: list[dict[Offset, int]] = [
+            {slot.start: slot.partition for slot in plan.slots} for plan in tables.plans]
 
     def board_fits(self) -> bool:
         sizes = self.tables.area_sizes()
@@ -92,7 +92,7 @@ class System:
 
     # Time
 
-    def tick(self, time: int) -> Answer:
+    def tick(self, time: Time) -> Answer:
         if time < self.now:
             raise Refused(Refusal.WRONG_TIME, "tick before now")
         if time > self.now + FURTHEST_TICK:
@@ -107,8 +107,8 @@ class System:
             self.plan = self.next_plan
             self.frame_start = self.now
         starting = self.slot_starts[self.plan].get(self.now - self.frame_start)
-        if starting is not None and self.partitions[starting].state == State.IDLE:
-            self.partitions[starting].state = State.READY
+        if starting is not None:
+            self.partitions[starting].start_slot()
 
     def slot_partition(self) -> int | None:
         """The partition that the present slot names, if there is a slot."""
@@ -130,7 +130,7 @@ class System:
 
     def call(self, caller: int, number: int, arguments: tuple[int, ...]) -> Answer:
         self.require_on_processor(caller)
-        if number >= self.limits.calls:
+        if number >= calls.CALL_COUNT:
             raise Refused(Refusal.NO_SUCH_CALL, "no such call")
         return calls.CALLS[number](self, caller, arguments)
 

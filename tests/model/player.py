@@ -7,6 +7,7 @@ from __future__ import annotations
 
 from random import Random
 
+from calls import CALL_COUNT
 from events import Call, Event, Fault, Line, Load, Store, SystemFault, Tick
 from limits import WHOLE, Limits
 from machine import FURTHEST_TICK
@@ -175,7 +176,7 @@ class Player(Stage):
                 return Line(self.rng.randrange(18))
             case 5:
                 return SystemFault(self.rng.choice((7, 8, 9, 11, 12)))
-        return self.a_call(guest, self.rng.randrange(27), [self.rng.randrange(9) for _ in range(5)])
+        return self.a_call(guest, self.rng.randrange(CALL_COUNT + 2), [self.rng.randrange(9) for _ in range(5)])
 
     def a_call(self, guest: int, number: int, arguments: list[int]) -> Call:
         """A call whose spare arguments hold anything at all."""
@@ -191,9 +192,7 @@ class Player(Stage):
         else:
             number = self.rng.choices(list(CALL_WEIGHTS), list(CALL_WEIGHTS.values()))[0]
         if number is None:
-            number = self.rng.choice((25, 26, 127, 128, 255, self.rng.randint(25, 255)))
-        elif number >= self.system.limits.calls and self.rng.random() < 0.6:
-            number = self.rng.randrange(self.system.limits.calls)
+            number = self.rng.choice((CALL_COUNT, CALL_COUNT + 1, 127, 128, 255, self.rng.randint(CALL_COUNT, 255)))
         arguments = self.good_arguments(caller, number)
         if arguments and self.rng.random() < 0.25:
             self.spoil(caller, arguments)

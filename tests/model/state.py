@@ -5,6 +5,8 @@ from __future__ import annotations
 from dataclasses import dataclass, field
 from enum import IntEnum
 
+from events import Time
+
 ALL_ONES = 0xFFFF_FFFF
 
 MESSAGE_BIT = 8
@@ -52,6 +54,11 @@ class Partition:
         self.mask = ALL_ONES
         self.open_ports = set()
 
+    def start_slot(self) -> None:
+        """What the start of its slot does to a partition: an IDLE one becomes READY."""
+        if self.state == State.IDLE:
+            self.state = State.READY
+
     def has_unmasked_bit(self) -> bool:
         return self.pending & ~self.mask != 0
 
@@ -59,12 +66,12 @@ class Partition:
 @dataclass(frozen=True)
 class Message:
     data: bytes
-    time: int
+    time: Time
 
 
 @dataclass(frozen=True)
 class LogEntry:
-    time: int
+    time: Time
     partition: int  # or the scope of the system
     event: int
     action: int

@@ -11,6 +11,7 @@ from random import Random
 
 import encode
 import script
+from calls import CALL_COUNT
 from circle import circle, circle_mask
 from design import design
 from dramas import FOUR, A, B, S, T
@@ -191,8 +192,8 @@ class Rules(unittest.TestCase):
         self.assertEqual(self.stage.call(B, 7, 1), Answer(-4))
         self.assertEqual(self.stage.call(B, 4, A), Answer(-4))
         self.assertEqual(self.stage.call(B, 4, B), Answer(-1))
-        self.assertEqual(self.stage.call(T, 25), Answer(-9))
-        self.assertEqual(self.stage.call(B, 25), Answer(-2))
+        self.assertEqual(self.stage.call(T, CALL_COUNT), Answer(-9))
+        self.assertEqual(self.stage.call(B, CALL_COUNT), Answer(-2))
 
     def test_halted_system_refuses_everything(self):
         self.stage.call(S, 24)

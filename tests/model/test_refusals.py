@@ -12,11 +12,12 @@ from random import Random
 from typing import Iterator
 
 import encode
+from calls import CALL_COUNT
 from design import design
 from dramas import DRAMAS, FOUR
 from events import ORDER, Call, Event, Fault, Line, Load, Store, SystemFault, Tick, in_words
 from limits import WHOLE
-from machine import System
+from machine import FURTHEST_TICK, System
 from player import Player
 from stage import Stage
 from state import State
@@ -31,7 +32,7 @@ def causes(system: System, event: Event) -> Iterator[int]:
         yield -10
     match event:
         case Tick(time):
-            if time < system.now or time > system.now + 1_000_000:
+            if time < system.now or time > system.now + FURTHEST_TICK:
                 yield -8
         case Line(line):
             if line > 15:
@@ -46,7 +47,7 @@ def causes(system: System, event: Event) -> Iterator[int]:
                 yield -9
             if isinstance(event, Fault) and event.event > 6:
                 yield -3
-            if isinstance(event, Call) and event.number > 24:
+            if isinstance(event, Call) and event.number >= CALL_COUNT:
                 yield -2
             elif isinstance(event, Call) and event.partition < len(system.partitions):
                 yield from call_causes(system, event.partition, event.number, event.arguments)

@@ -21,6 +21,8 @@ MOST_PORTS = 32  # over all channels
 MOST_QUEUE_PORTS = 2  # of one queuing channel
 LEAST_PORTS = 2  # of any channel
 
+Offset = int  # an offset or a length in a frame, in microseconds
+
 
 class Kind(IntEnum):
     HEADER = 1
@@ -87,17 +89,17 @@ class PartitionRow:
 @dataclass(frozen=True)
 class Slot:
     partition: int
-    start: int
-    duration: int
+    start: Offset
+    duration: Offset
 
     @property
-    def end(self) -> int:
+    def end(self) -> Offset:
         return self.start + self.duration
 
 
 @dataclass
 class Plan:
-    frame: int
+    frame: Offset
     slots: list[Slot] = field(default_factory=list)
 
 

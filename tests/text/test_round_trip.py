@@ -12,6 +12,7 @@ from random import Random
 from common import ROOT, run_tool, script
 
 import encode
+from calls import CALL_COUNT
 from design import design
 from generate import scripts
 from limits import WHOLE
@@ -213,12 +214,12 @@ class Words(unittest.TestCase):
     def test_calls_are_named_unless_a_spare_argument_is_used(self) -> None:
         rng = Random(SEED)
         player = Player(rng, encode.vector(design(rng, WHOLE)), WHOLE)
-        for number in range(25):
+        for number in range(CALL_COUNT):
             player.call(0, number)
         text = decode_script(encode.script(player.vector, player.events))
         self.assertNotIn(" call ", text)
         player.call(0, 0, 0, 0, 0, 0, 1)
-        player.call(0, 25)
+        player.call(0, CALL_COUNT)
         text = decode_script(encode.script(player.vector, player.events))
         self.assertEqual(text.count(" call "), 2)
 

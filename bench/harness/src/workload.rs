@@ -5,7 +5,7 @@ use std::fs;
 use std::path::Path;
 
 /// Bytes of one answer: code, a and b.
-const ANSWER: usize = 12;
+const ANSWER_BYTES: usize = 12;
 
 pub struct Workload {
     pub name: String,
@@ -49,7 +49,7 @@ impl Workload {
 
     /// Room for all answers.
     pub fn room(&self) -> Vec<u8> {
-        vec![0; self.events * ANSWER]
+        vec![0; self.events * ANSWER_BYTES]
     }
 
     pub fn run(&self, implementation: Implementation, answers: &mut [u8]) -> usize {
@@ -88,7 +88,7 @@ impl Workload {
 /// Code, a and b of one event.
 fn answer(answers: &[u8], event: usize) -> (i32, u32, u32) {
     let word = |at: usize| {
-        let start = event * ANSWER + at;
+        let start = event * ANSWER_BYTES + at;
         u32::from_le_bytes([answers[start], answers[start + 1], answers[start + 2], answers[start + 3]])
     };
     (word(0) as i32, word(4), word(8))

@@ -1,7 +1,7 @@
 //! What the comparison of scripts does not reach: `run` with its refusals, and boards that do not fit.
 
 use plain::board::{Board, Fence};
-use plain::machine::{Event, System};
+use plain::machine::{Answer, Event, System};
 use plain::vector;
 
 /// One standard partition with 16 bytes, whose slot fills the frame.
@@ -14,8 +14,8 @@ const RECORDS: [u8; 17] = [4, 0, 32, 0, 5, 0, 0, 0, 5, 0, 34, 0, 0, 16, 0, 0, 0]
 fn answers_stand_one_after_another() {
     let mut answers = [0xFF; 25];
     assert_eq!(plain::run(&VECTOR, &RECORDS, &mut answers), 2);
-    assert_eq!(answers[..12], [0; 12]);
-    assert_eq!(answers[12..24], [1, 0, 0, 0, 0, 0, 0, 0, 0, 0, 0, 0]);
+    assert_eq!(answers[..Answer::BYTES], [0; Answer::BYTES]);
+    assert_eq!(answers[Answer::BYTES..2 * Answer::BYTES], [1, 0, 0, 0, 0, 0, 0, 0, 0, 0, 0, 0]);
     assert_eq!(answers[24], 0xFF);
 }
 

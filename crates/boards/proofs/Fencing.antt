@@ -5,7 +5,7 @@ use Rattle.std.proofs.lemmas.List.{get_or-take, get_or-drop, get_or_past}
 use Rattle.std.proofs.lemmas.Bool.{and_parts}
 use Rattle.std.proofs.lemmas.Bool.Decides.{nat_tests}
 use Rattle.board.specs.Areas.{area}
-use Rattle.boards.specs.declared.fence.Fence.{Fence}
+use Rattle.boards.specs.declared.fenced.Fence.{Fence}
 use Rattle.boards.specs.Below.{all_below}
 use Rattle.boards.specs.Places.{LayoutLaws}
 use Rattle.boards.specs.Fences.{nowhere, fence_of, part, parts, within, apart, apart_at, good_fence, sound_fences, fence_place, fence_size, fence_stretch}

@@ -6,7 +6,7 @@ use Rattle.std.proofs.lemmas.List.{get_or_past}
 use Rattle.std.proofs.lemmas.List.Sums.{AllPass-from_list_all}
 use Rattle.std.proofs.lemmas.Bool.{cases_lt, and_parts, leb-true, lt-ltb, not-true, eqb-false}
 use Rattle.board.specs.Areas.{area}
-use Rattle.boards.specs.declared.pages.Pages.{Pages}
+use Rattle.boards.specs.declared.paged.Pages.{Pages}
 use Rattle.boards.specs.Below.{all_below}
 use Rattle.boards.specs.Places.{LayoutLaws}
 use Rattle.boards.specs.Pages.{no_pages, page, paged_size, paged_place, paged_stretch, paged_byte, paged_area, paged, eight-paged, entry, used, differs, good_entry, fits, sound_pages}

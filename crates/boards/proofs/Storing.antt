@@ -2,10 +2,10 @@
 use Rattle.std.proofs.Common.{◌≡◌, ℕ, ◌<◌, ◌≤◌, List, [], length, get_or, set, sym, ap, ◌∙◌, ⊎_elim, arith, length-set}
 use Rattle.std.proofs.lemmas.List.{ext_get_or, get_or-set_same, get_or-set_other, get_or_past}
 use Rattle.std.proofs.lemmas.Bool.{cases_eq, lt-ltb}
-use Rattle.board.specs.Areas.{area}
+use Rattle.board.specs.Areas.{area, Area}
 use Rattle.boards.specs.Places.{LayoutLaws, LiesAt}
 
-module _ {n : ℕ} {view : List ℕ → List (List ℕ)} {size : ℕ → ℕ} {place stretch : ℕ → ℕ → ℕ} (w : LayoutLaws n view size place stretch)
+module _ {n : ℕ} {view : List ℕ → List Area} {size : ℕ → ℕ} {place stretch : ℕ → ℕ → ℕ} (w : LayoutLaws n view size place stretch)
     (memory : List ℕ) (e : length memory ≡ n) (i at : ℕ) where
   -- an area that has a byte is there
   pub there : at < size i → i < length (view memory)

@@ -7,18 +7,28 @@ use Rattle.std.proofs.lemmas.List.{get_or-set_same, set-set, set-get_or, get_or-
 use Rattle.std.proofs.lemmas.List.Edits.{paste_all}
 use Rattle.std.proofs.lemmas.Slice.{put_mid-paste, take-put_mid}
 use borrow.Rule.Slice.PartMut.{put_mid}
-use Rattle.board.specs.Areas.{area, wiped}
+use Rattle.board.specs.Areas.{area, wiped, Area}
 use Rattle.boards.specs.Places.{LayoutLaws}
 use Rattle.boards.proofs.Storing.{there, lies_at}
 
 -- the areas when the first d of the bytes s lie in area i from o on
-abbrev pub laid : List (List ℕ) → ℕ → ℕ → List ℕ → ℕ → List (List ℕ)
+abbrev pub laid : List Area → ℕ → ℕ → List ℕ → ℕ → List Area
 laid ms i o s d = set ms i (paste (area ms i) o s d)
 
-pub begun : (ms : List (List ℕ)) (i o : ℕ) (s : List ℕ) → ms ≡ laid ms i o s 0
+-- how far a loop has laid bytes in an area: d of n
+pub record Laying (ms ns : List Area) (i o : ℕ) (s : List ℕ) (n d : ℕ) : Type 0 where
+  pub within : d ≤ n
+  pub areas : ns ≡ laid ms i o s d
+
+-- how far a loop has read the bytes of an area from o on: d of n
+pub record Reading (a into : List ℕ) (o n d : ℕ) : Type 0 where
+  pub within : d ≤ n
+  pub bytes : take d into ≡ take d (drop o a)
+
+pub begun : (ms : List Area) (i o : ℕ) (s : List ℕ) → ms ≡ laid ms i o s 0
 begun ms i o s = sym (ap (set ms i) (sym (paste-zero (area ms i) o s)) ∙ set-get_or ms i [])
 
-module _ {n : ℕ} {view : List ℕ → List (List ℕ)} {size : ℕ → ℕ} {place stretch : ℕ → ℕ → ℕ} (w : LayoutLaws n view size place stretch)
+module _ {n : ℕ} {view : List ℕ → List Area} {size : ℕ → ℕ} {place stretch : ℕ → ℕ → ℕ} (w : LayoutLaws n view size place stretch)
     (memory : List ℕ) (e : length memory ≡ n) (i o : ℕ) (s : List ℕ) where
   -- one byte more
   one_more : (m : List ℕ) (d p b : ℕ) → length m ≡ n → view m ≡ laid (view memory) i o s d → p ≡ place i (o + d) → b ≡ get_or s d 0 →
@@ -64,7 +74,7 @@ module _ {n : ℕ} {view : List ℕ → List (List ℕ)} {size : ℕ → ℕ} {p
       ∙ stretch_more m bs d a k l q (λ j u. ap (λ x. get_or x j 0) b ∙ get_or-take k (drop d s) j 0 u ∙ get_or-drop d s j 0) (omega arith) y z h g
 
 -- a stretch lies within the memory
-pub room : {n : ℕ} {view : List ℕ → List (List ℕ)} {size : ℕ → ℕ} {place stretch : ℕ → ℕ → ℕ} (w : LayoutLaws n view size place stretch) (i at : ℕ) →
+pub room : {n : ℕ} {view : List ℕ → List Area} {size : ℕ → ℕ} {place stretch : ℕ → ℕ → ℕ} (w : LayoutLaws n view size place stretch) (i at : ℕ) →
     at < size i → place i at + stretch i at ≤ n
 room {n} {view} {size} {place} {stretch} w i at h =
     let some = w.some i at h in
@@ -87,7 +97,7 @@ pub zeros_of : (n d k : ℕ) → d + k ≤ n → zeros k ≡ take k (drop d (zer
 zeros_of n d k h = sym (ap (take k) (drop-replicate d n 0) ∙ take-replicate k (n - d) 0 (omega arith))
 
 -- an area that zeros have been laid over from end to end is wiped
-pub all_zeros : (ms ns : List (List ℕ)) (i n d : ℕ) → ns ≡ laid ms i 0 (zeros n) d → d ≡ n → n ≡ length (area ms i) → ns ≡ wiped ms i
+pub all_zeros : (ms ns : List Area) (i n d : ℕ) → ns ≡ laid ms i 0 (zeros n) d → d ≡ n → n ≡ length (area ms i) → ns ≡ wiped ms i
 all_zeros ms ns i n d r q e =
     let l : length (zeros n) ≡ n = length-replicate {A = ℕ} n 0 in
     r
@@ -99,12 +109,12 @@ all_zeros ms ns i n d r q e =
     ∙ ap zeros e)
 
 -- an area that all of the bytes have been laid in
-pub all_laid : (ms ns : List (List ℕ)) (i o d : ℕ) (s : List ℕ) → ns ≡ laid ms i o s d → d ≡ length s →
+pub all_laid : (ms ns : List Area) (i o d : ℕ) (s : List ℕ) → ns ≡ laid ms i o s d → d ≡ length s →
     ns ≡ set ms i (take o (area ms i) ++ (s ++ drop (o + length s) (area ms i)))
 all_laid ms ns i o d s r q = r ∙ ap (laid ms i o s) q ∙ ap (set ms i) (paste_all (area ms i) o s (length s) refl)
 
 -- a stretch holds the bytes of its area
-pub stretch_is : {n : ℕ} {view : List ℕ → List (List ℕ)} {size : ℕ → ℕ} {place stretch : ℕ → ℕ → ℕ} (w : LayoutLaws n view size place stretch)
+pub stretch_is : {n : ℕ} {view : List ℕ → List Area} {size : ℕ → ℕ} {place stretch : ℕ → ℕ → ℕ} (w : LayoutLaws n view size place stretch)
     (memory : List ℕ) → length memory ≡ n → (i a k : ℕ) → a < size i → k ≤ stretch i a → take k (drop (place i a) memory) ≡ take k (drop a (area (view memory) i))
 stretch_is {n} {view} {size} {place} {stretch} w memory e i a k h q =
     let long = w.long memory e i in

@@ -1,7 +1,9 @@
 -- Eight fences: parts of one memory, apart from one another.
-use Rattle.std.specs.Prelude.{ℕ, ◌+◌, ◌-◌, Bool, ◌&&◌, ◌||◌, List, map, take, drop, replicate, if◌then◌else◌, ◌==◌, nat_le, slice_index_or}
-use Rattle.boards.specs.declared.fence.Fence.{Fence}
+use Rattle.std.specs.Prelude.{ℕ, ◌+◌, ◌-◌, Bool, ◌&&◌, ◌||◌, List, [], map, take, drop, replicate, if◌then◌else◌, ◌==◌, nat_le, slice_index_or}
+use Rattle.board.specs.Areas.{Area}
+use Rattle.boards.specs.declared.fenced.Fence.{Fence}
 use Rattle.boards.specs.Below.{all_below}
+use Rattle.boards.specs.Places.{LayoutLaws}
 
 -- an empty fence
 abbrev pub nowhere : Fence
@@ -12,11 +14,11 @@ abbrev pub fence_of : List Fence → ℕ → Fence
 fence_of fences i = slice_index_or fences i nowhere
 
 -- the bytes that a fence holds: `size` of them, from `base` on
-abbrev pub part : List ℕ → Fence → List ℕ
+abbrev pub part : List ℕ → Fence → Area
 part memory f = take f.size (drop f.base memory)
 
 -- the areas: the part of each fence
-abbrev pub parts : List ℕ → List Fence → List (List ℕ)
+abbrev pub parts : List ℕ → List Fence → List Area
 parts memory fences = map (part memory) fences
 
 -- a fence has at most 1,024 bytes, all within a memory of n; an empty one may have any base
@@ -54,3 +56,12 @@ fence_size fences i = (fence_of fences i).size
 -- all bytes of an area lie one after another: from byte `at` on, those that are left
 abbrev pub fence_stretch : List Fence → ℕ → ℕ → ℕ
 fence_stretch fences i at = fence_size fences i - at
+
+-- the fences lay the areas apart in a memory of n bytes
+abbrev pub FencesLaid : List Fence → ℕ → Type 0
+FencesLaid fences n =
+    LayoutLaws n (λ memory. parts memory fences) (fence_size fences) (fence_place fences) (fence_stretch fences)
+
+-- the areas of a board on a memory of n bytes: the given fences' parts where they are sound, else eight empty ones
+abbrev pub fenced_areas : List ℕ → List Fence → ℕ → List Area
+fenced_areas memory fences n = if sound_fences fences n then parts memory fences else replicate 8 []

@@ -1,9 +1,11 @@
 -- Areas of up to 16 pages of 64 bytes, found through a page table.
-use Rattle.std.specs.Prelude.{◌≡◌, ℕ, ◌+◌, ◌-◌, ◌*◌, ◌/◌, ◌%◌, min, Bool, not, ◌&&◌, ◌||◌, List, map, replicate, length, if◌then◌else◌, ◌==◌, nat_le, nat_lt, slice_index, slice_index_or}
+use Rattle.std.specs.Prelude.{◌≡◌, ℕ, ◌+◌, ◌-◌, ◌*◌, ◌/◌, ◌%◌, min, Bool, not, ◌&&◌, ◌||◌, List, [], map, replicate, length, if◌then◌else◌, ◌==◌, nat_le, nat_lt, slice_index, slice_index_or}
 use Rattle.std.specs.List.{list_all, range_with_len}
 use Rattle.std.proofs.lemmas.List.FromFn.{length-map-range_with_len}
-use Rattle.boards.specs.declared.pages.Pages.{Pages}
+use Rattle.board.specs.Areas.{Area}
+use Rattle.boards.specs.declared.paged.Pages.{Pages}
 use Rattle.boards.specs.Below.{all_below}
+use Rattle.boards.specs.Places.{LayoutLaws}
 
 -- the pages of an area of no bytes
 abbrev pub no_pages : Pages
@@ -34,11 +36,11 @@ abbrev pub paged_byte : List ℕ → List Pages → ℕ → ℕ → ℕ
 paged_byte memory table i at = slice_index memory (paged_place table i at)
 
 -- area i: its bytes from 0 up to its size
-abbrev pub paged_area : List ℕ → List Pages → ℕ → List ℕ
+abbrev pub paged_area : List ℕ → List Pages → ℕ → Area
 paged_area memory table i = map (paged_byte memory table i) (range_with_len 0 (paged_size table i))
 
 -- the eight areas (shut, since open it would be eight rows)
-unfoldable pub paged : List ℕ → List Pages → List (List ℕ)
+unfoldable pub paged : List ℕ → List Pages → List Area
 paged memory table = map (paged_area memory table) (range_with_len 0 8)
 
 -- there are eight
@@ -73,3 +75,12 @@ sound_pages table n = all_below (good_entry table n) 128 && list_all fits table
 -- the pages that a board takes: the given ones where they are sound, else none for any area
 abbrev pub taken_pages : List Pages → ℕ → List Pages
 taken_pages table n = if sound_pages table n then table else replicate 8 no_pages
+
+-- the pages lay the areas apart in a memory of n bytes
+abbrev pub PagesLaid : List Pages → ℕ → Type 0
+PagesLaid table n =
+    LayoutLaws n (λ memory. paged memory table) (paged_size table) (paged_place table) (paged_stretch table)
+
+-- the areas of a board on a memory of n bytes: the given pages where they are sound, else eight empty ones
+abbrev pub paged_areas : List ℕ → List Pages → ℕ → List Area
+paged_areas memory table n = if sound_pages table n then paged memory table else replicate 8 []

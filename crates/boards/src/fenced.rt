@@ -1,12 +1,52 @@
 //! A board whose areas are fenced parts of a memory of its own.
-ghost use Rattle.std.specs.Prelude.{◌≡◌, true, [], length, replicate, if◌then◌else◌};
-ghost use Rattle.boards.specs.Fences.{parts, sound_fences, taken_fences, fence_size, fence_place, fence_stretch};
-ghost use Rattle.boards.specs.Places.{LayoutLaws};
+ghost use Rattle.std.specs.Prelude.{◌≡◌, ◌+◌, ◌<◌, true, length, nat_le};
+ghost use Rattle.boards.specs.Below.{all_below};
+ghost use Rattle.boards.specs.Fences.{within, apart, apart_at, parts, sound_fences, taken_fences, fence_size, fence_place, fence_stretch, FencesLaid, fenced_areas};
 
-use crate::fence::Fence;
-use crate::fences::are_sound;
 use crate::laid::Laid;
 use crate::layout::Layout;
+
+/// The `size` bytes of a memory from `base` on.
+#[derive(Clone, Copy, Debug, PartialEq, Eq)]
+pub struct Fence {
+    pub base: usize,
+    pub size: usize,
+}
+
+// The tests go by differences: base + size may be more than a number holds.
+impl Fence {
+    fn lies_within(self, n: usize) -> bool
+        ensures { result ≡ within n self }
+    {
+        self.size <= 1024 && (self.size == 0 || (self.base <= n && self.size <= n - self.base))
+    }
+
+    fn ends_before(self, other: Fence) -> bool
+        ensures { result ≡ nat_le (self.base + self.size) other.base }
+    {
+        self.base <= other.base && self.size <= other.base - self.base
+    }
+
+    fn is_apart_from(self, other: Fence) -> bool
+        ensures { result ≡ apart self other }
+    {
+        self.size == 0 || other.size == 0 || self.ends_before(other) || other.ends_before(self)
+    }
+}
+
+fn is_apart_from_earlier(fences: &[Fence; 8], i: usize) -> bool
+    requires { i < 8 }
+    ensures { result ≡ all_below (apart_at fences.now i) i }
+{
+    (0..i).all(|j| fences[i].is_apart_from(fences[j]))
+}
+
+/// May these be the fences of a memory of n bytes?
+fn are_sound(fences: &[Fence; 8], n: usize) -> bool
+    ensures { result ≡ sound_fences fences.now n }
+{
+    (0..8).all(|i| fences[i].lies_within(n) && is_apart_from_earlier(fences, i))
+}
 
 /// The fences of eight areas, sound in a memory of N bytes.
 #[derive(Drop)]
@@ -14,7 +54,7 @@ pub struct Fences<const N: usize> {
     fences: [Fence; 8],
     ghost eight: { length fences ≡ 8 },
     ghost sound: { sound_fences fences N ≡ true },
-    ghost laws: { LayoutLaws N (λ memory. parts memory fences) (fence_size fences) (fence_place fences) (fence_stretch fences) },
+    ghost laws: { FencesLaid fences N },
 }
 
 impl<const N: usize> Fences<N> {
@@ -64,7 +104,7 @@ impl<const N: usize> Laid<Fences<N>, N> {
     pub fn new(memory: [u8; N], fences: [Fence; 8]) -> Fenced<N>
         ensures memory { result.memory ≡ memory.entry }
         ensures fences { result.layout.fences ≡ taken_fences fences N }
-        ensures areas { parts result.memory result.layout.fences ≡ (if sound_fences fences N then parts memory.entry fences else replicate 8 []) }
+        ensures areas { parts result.memory result.layout.fences ≡ fenced_areas memory.entry fences N }
     {
         Laid::with_layout(memory, Fences::new(fences))
     }

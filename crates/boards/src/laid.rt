@@ -37,7 +37,8 @@ impl<L: Layout<N>, const N: usize> Laid<L, N> {
         }
     }
 
-    // Whether n bytes from a place on lie in an area; the test goes by a difference, since a sum may be more than a number holds.
+    // Whether n bytes from a place on lie in an area; the test goes by a difference, since a sum may be more than a
+    // number holds.
     fn has(&self, i: usize, at: usize, n: usize) -> bool
         ensures is { result ≡ holds (L.view self.now.layout self.now.memory) i at n }
         ensures lies { result ≡ true → at + n ≤ L.sizes self.now.layout i }

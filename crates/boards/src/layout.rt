@@ -1,11 +1,12 @@
 //! What a way to lay eight areas out in one memory is.
 ghost use Rattle.std.specs.Prelude.{◌≡◌, ℕ, ◌<◌, List};
+ghost use Rattle.board.specs.Areas.{Area};
 ghost use Rattle.boards.specs.Places.{LayoutLaws};
 
 /// Where the bytes of eight areas lie in a memory of N bytes.
 pub trait Layout<const N: usize> {
     /// The areas that lie in a memory.
-    ghost view: { Self → List ℕ → List (List ℕ) };
+    ghost view: { Self → List ℕ → List Area };
 
     /// The size of each area.
     ghost sizes: { Self → ℕ → ℕ };

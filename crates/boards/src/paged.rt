@@ -1,12 +1,65 @@
 //! A board whose areas are made of pages of a memory of its own.
-ghost use Rattle.std.specs.Prelude.{◌≡◌, true, [], length, replicate, if◌then◌else◌};
-ghost use Rattle.boards.specs.Pages.{paged, sound_pages, taken_pages, paged_place, paged_size, paged_stretch};
-ghost use Rattle.boards.specs.Places.{LayoutLaws};
+ghost use Rattle.std.specs.Prelude.{◌≡◌, true, length};
+ghost use Rattle.std.specs.List.{list_all};
+ghost use Rattle.boards.specs.Below.{all_below};
+ghost use Rattle.boards.specs.Pages.{entry, used, differs, good_entry, fits, paged, sound_pages, taken_pages, paged_place, paged_size, paged_stretch, PagesLaid, paged_areas};
 
 use crate::laid::Laid;
 use crate::layout::Layout;
-use crate::pages::Pages;
-use crate::table::is_sound;
+
+/// The pages that hold an area's bytes in turn, by number, and how many bytes it has.
+#[derive(Clone, Copy, Debug, PartialEq, Eq)]
+pub struct Pages {
+    pub numbers: [u16; 16],
+    pub size: usize,
+}
+
+// Page e % 16 of area e / 16.
+fn page_of(table: &[Pages; 8], e: usize) -> u16
+    ensures { result ≡ entry table.now e }
+{
+    table.get(e / 16).map_or(0, |pages| pages.numbers[e % 16])
+}
+
+// Does the area reach into that page?
+fn is_used(table: &[Pages; 8], e: usize) -> bool
+    ensures { result ≡ used table.now e }
+{
+    table
+        .get(e / 16)
+        .is_some_and(|pages| 64 * (e % 16) < pages.size)
+}
+
+fn is_new(table: &[Pages; 8], e: usize) -> bool
+    ensures { result ≡ all_below (differs table.now e) e }
+{
+    (0..e).all(|d| !is_used(table, d) || page_of(table, e) != page_of(table, d))
+}
+
+fn is_good(table: &[Pages; 8], n: usize, e: usize) -> bool
+    ensures { result ≡ good_entry table.now n e }
+{
+    !is_used(table, e) || (64 * usize::from(page_of(table, e)) + 64 <= n && is_new(table, e))
+}
+
+fn are_good(table: &[Pages; 8], n: usize) -> bool
+    ensures { result ≡ all_below (good_entry table.now n) 128 }
+{
+    (0..128).all(|e| is_good(table, n, e))
+}
+
+fn all_fit(table: &[Pages; 8]) -> bool
+    ensures { result ≡ list_all fits table.now }
+{
+    table.iter().all(|pages| pages.size <= 1024)
+}
+
+/// May this be the page table of a memory of n bytes?
+fn is_sound(table: &[Pages; 8], n: usize) -> bool
+    ensures { result ≡ sound_pages table.now n }
+{
+    are_good(table, n) && all_fit(table)
+}
 
 /// The pages of eight areas, sound in a memory of N bytes.
 #[derive(Drop)]
@@ -14,7 +67,7 @@ pub struct PageTable<const N: usize> {
     areas: [Pages; 8],
     ghost eight: { length areas ≡ 8 },
     ghost sound: { sound_pages areas N ≡ true },
-    ghost laws: { LayoutLaws N (λ memory. paged memory areas) (paged_size areas) (paged_place areas) (paged_stretch areas) },
+    ghost laws: { PagesLaid areas N },
 }
 
 impl<const N: usize> PageTable<N> {
@@ -66,7 +119,7 @@ impl<const N: usize> Laid<PageTable<N>, N> {
     pub fn new(memory: [u8; N], areas: [Pages; 8]) -> Paged<N>
         ensures memory { result.memory ≡ memory.entry }
         ensures pages { result.layout.areas ≡ taken_pages areas N }
-        ensures areas { paged result.memory result.layout.areas ≡ (if sound_pages areas N then paged memory.entry areas else replicate 8 []) }
+        ensures areas { paged result.memory result.layout.areas ≡ paged_areas memory.entry areas N }
     {
         Laid::with_layout(memory, PageTable::new(areas))
     }

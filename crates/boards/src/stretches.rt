@@ -1,6 +1,6 @@
 // Ranges of an area at a stroke: the stretches of the memory that they lie in, one after another.
-ghost use Rattle.std.specs.Prelude.{◌≡◌, ◌+◌, ◌^◌, ◌<◌, ◌≤◌, ◌++◌, length, take, drop, slice_set};
-ghost use Rattle.board.specs.Areas.{area, wiped};
+ghost use Rattle.std.specs.Prelude.{◌≡◌, ◌+◌, ◌^◌, ◌<◌, ◌≤◌, length};
+ghost use Rattle.board.specs.Areas.{area, part, patched_in, wiped};
 
 use crate::layout::Layout;
 
@@ -30,7 +30,7 @@ pub(crate) fn load<L: Layout<N>, const N: usize>(
     requires whole { length memory.now ≡ N }
     requires fits { at + length into.old < 2 ^ 64 }
     requires inside { at + length into.old ≤ L.sizes layout.now i }
-    ensures { into.new ≡ take (length into.old) (drop at (area (L.view layout.now memory.now) i)) }
+    ensures { into.new ≡ part (area (L.view layout.now memory.now) i) at (length into.old) }
 {
     if into.is_empty() {
         return;
@@ -56,7 +56,7 @@ fn load_stretches<L: Layout<N>, const N: usize>(
     requires whole { length memory.now ≡ N }
     requires fits { at + length into.old < 2 ^ 64 }
     requires inside { at + length into.old ≤ L.sizes layout.now i }
-    ensures { into.new ≡ take (length into.old) (drop at (area (L.view layout.now memory.now) i)) }
+    ensures { into.new ≡ part (area (L.view layout.now memory.now) i) at (length into.old) }
 {
     let len = into.len();
     let mut done = 0;
@@ -79,7 +79,7 @@ pub(crate) fn store<L: Layout<N>, const N: usize>(
     requires whole { length memory.old ≡ N }
     requires fits { at + length bytes.now < 2 ^ 64 }
     requires inside { at + length bytes.now ≤ L.sizes layout.now i }
-    ensures { L.view layout.now memory.new ≡ slice_set (L.view layout.now memory.old) i (take at (area (L.view layout.now memory.old) i) ++ (bytes.now ++ drop (at + length bytes.now) (area (L.view layout.now memory.old) i))) }
+    ensures { L.view layout.now memory.new ≡ patched_in (L.view layout.now memory.old) i at bytes.now }
 {
     if bytes.is_empty() {
         return;
@@ -105,7 +105,7 @@ fn store_stretches<L: Layout<N>, const N: usize>(
     requires whole { length memory.old ≡ N }
     requires fits { at + length bytes.now < 2 ^ 64 }
     requires inside { at + length bytes.now ≤ L.sizes layout.now i }
-    ensures { L.view layout.now memory.new ≡ slice_set (L.view layout.now memory.old) i (take at (area (L.view layout.now memory.old) i) ++ (bytes.now ++ drop (at + length bytes.now) (area (L.view layout.now memory.old) i))) }
+    ensures { L.view layout.now memory.new ≡ patched_in (L.view layout.now memory.old) i at bytes.now }
 {
     let len = bytes.len();
     let mut done = 0;

@@ -1,7 +1,7 @@
 -- What many microseconds come to, without going through them.
 use Rattle.std.proofs.Common.{◌≡◌, ℕ, zero, suc, ◌+◌, ◌-◌, ◌*◌, ◌/◌, ◌%◌, ◌<◌, ◌≤◌, List, sym, ap, ◌∙◌, mod-lt, suc-mul, suc-add, div-add-mod', zero-add, zero-mul, arith}
 use Rattle.std.proofs.lemmas.Bool.{cond-true, cond-false, eq-eqb, ne_eqb, lt-ltb, le-ltb}
-use Rattle.vector.specs.Tables.{Plans}
+use Rattle.tables.specs.Tables.{Plans}
 use Rattle.machine.specs.declared.clock.Clock.{Clock}
 use Rattle.machine.specs.declared.partition.Partition.{Partition}
 use Rattle.machine.specs.Questions.{slots_of}

@@ -1,15 +1,15 @@
 -- The algebra of waking: ranges of offsets join, and a range within another adds nothing.
-use Rattle.std.proofs.Common.{◌≡◌, ℕ, zero, suc, ◌+◌, ◌<◌, ◌≤◌, Bool, true, false, ◌&&◌, ◌||◌, eqb, ◌≢◌, List, [], ◌∷◌, ◌++◌, length, get_or, take, set, sym, refl, ap, ap₂, ◌∙◌, arith}
+use Rattle.std.proofs.Common.{◌≡◌, ℕ, zero, suc, ◌+◌, ◌<◌, ◌≤◌, Bool, true, false, ◌&&◌, ◌||◌, eqb, ◌≢◌, List, [], ◌∷◌, ◌++◌, length, get_or, take, set, sym, refl, ap, ap₂, ◌∙◌, arith, cond}
 use Rattle.std.specs.List.{list_any}
 use Rattle.std.proofs.Math.Bool.{or-false, or_assoc, and-false, and-or_distrib_left}
 use Rattle.std.proofs.lemmas.Bool.{both_ways, or_parts, eq-eqb, ne_eqb}
 use Rattle.std.proofs.lemmas.Bool.Decides.{nat_tests}
 use Rattle.std.proofs.lemmas.List.{take_more}
-use Rattle.vector.specs.declared.tables.Slot.{Slot}
+use Rattle.tables.specs.declared.plan.Slot.{Slot}
 use Rattle.machine.specs.declared.partition.Status.{Status}
 use Rattle.machine.specs.declared.partition.Status.TheVariants.{Halted, Ready, Idle, Suspended}
 use Rattle.machine.specs.declared.partition.Partition.{Partition}
-use Rattle.machine.specs.Partitions.{with_status, is_idle, roused, woken}
+use Rattle.machine.specs.Partitions.{with_status, is_idle, roused, slot_started}
 use Rattle.machine.specs.Time.{due_at, each_from, wakes, wake_at}
 use Rattle.clock.specs.Ranges.{sleeps, within, begins, starts, wakes_in, wake}
 
@@ -62,11 +62,19 @@ roused_twice Ready = refl
 roused_twice Idle = refl
 roused_twice Suspended = refl
 
-woken_twice : (x y : Bool) (p : Partition) → woken x (woken y p) ≡ woken (y || x) p
-woken_twice true true p = ap (λ s. with_status s p) (roused_twice p.status)
-woken_twice true false p = refl
-woken_twice false true p = refl
-woken_twice false false p = refl
+-- a slot that starts twice has started
+slot_started_twice : (p : Partition) → slot_started (slot_started p) ≡ slot_started p
+slot_started_twice p = ap (λ s. with_status s p) (roused_twice p.status)
+
+-- a partition whose slot starts where the test says so
+abbrev pub started : Bool → Partition → Partition
+started b p = cond b (slot_started p) p
+
+started_twice : (x y : Bool) (p : Partition) → started x (started y p) ≡ started (y || x) p
+started_twice true true p = slot_started_twice p
+started_twice true false p = refl
+started_twice false true p = refl
+started_twice false false p = refl
 
 each_join : (f g : ℕ → Partition → Partition) (i : ℕ) (ps : List Partition) → each_from f i (each_from g i ps) ≡ each_from (λ q p. f q (g q p)) i ps
 unfolding each_from
@@ -102,7 +110,7 @@ wake_both : (ss : List Slot) (a b c d e f : ℕ) (ps : List Partition) → ((o :
 unfolding wake
 wake_both ss a b c d e f ps h =
     each_join (wakes_in ss c d) (wakes_in ss a b) 0 ps
-    ∙ each_same _ _ (λ q p. woken_twice (starts ss c d q) (starts ss a b q) p ∙ ap (λ z. woken z p) (starts_both ss a b c d e f q h)) 0 ps
+    ∙ each_same _ _ (λ q p. started_twice (starts ss c d q) (starts ss a b q) p ∙ ap (λ z. started z p) (starts_both ss a b c d e f q h)) 0 ps
 
 pub wake_join : (ss : List Slot) (a b c : ℕ) (ps : List Partition) → a ≤ b → b ≤ c → wake ss b c (wake ss a b ps) ≡ wake ss a c ps
 wake_join ss a b c ps l m = wake_both ss a b b c a c ps (λ o. grind (arith, nat_tests))
@@ -113,7 +121,7 @@ wake-within ss a b c ps l = wake_both ss a c a b a c ps (λ o. grind (arith, nat
 -- where no slot starts nothing wakes
 pub wake-calm : (ss : List Slot) (a b : ℕ) (ps : List Partition) → ((q : ℕ) → starts ss a b q ≡ false) → wake ss a b ps ≡ ps
 unfolding wake
-wake-calm ss a b ps h = each_none (wakes_in ss a b) 0 ps (λ q p m. ap (λ z. woken z p) (h q))
+wake-calm ss a b ps h = each_none (wakes_in ss a b) 0 ps (λ q p m. ap (λ z. started z p) (h q))
 
 pub wake-none : (ss : List Slot) (a b : ℕ) (ps : List Partition) → b ≤ a → wake ss a b ps ≡ ps
 wake-none ss a b ps l = wake-calm ss a b ps (λ q. starts_none ss a b q (λ o. grind (arith, nat_tests)))
@@ -121,7 +129,7 @@ wake-none ss a b ps l = wake-calm ss a b ps (λ q. starts_none ss a b q (λ o. g
 -- a microsecond's waking is that of a range of one offset
 pub wake-one : (ss : List Slot) (o : ℕ) (ps : List Partition) → wake_at ss o ps ≡ wake ss o (o + 1) ps
 unfolding wake wake_at
-wake-one ss o ps = each_same (wakes ss o) (wakes_in ss o (o + 1)) (λ q p. ap (λ z. woken z p) (starts-one ss o q)) 0 ps
+wake-one ss o ps = each_same (wakes ss o) (wakes_in ss o (o + 1)) (λ q p. ap (λ z. started z p) (starts-one ss o q)) 0 ps
 
 -- with no slot nothing wakes
 pub wake_nil : (a b : ℕ) (ps : List Partition) → wake [] a b ps ≡ ps
@@ -130,40 +138,47 @@ wake_nil a b ps = each_none (wakes_in [] a b) 0 ps (λ q p l. refl)
 
 -- one slot more wakes its own partition
 wake-push : (ss : List Slot) (s : Slot) (a b : ℕ) (ps : List Partition) (d : Partition) →
-    wake (ss ++ s ∷ []) a b ps ≡ set (wake ss a b ps) s.partition (woken (within a b s.start) (get_or (wake ss a b ps) s.partition d))
+    wake (ss ++ s ∷ []) a b ps ≡ set (wake ss a b ps) s.partition (started (within a b s.start) (get_or (wake ss a b ps) s.partition d))
 unfolding wake
 wake-push ss s a b ps d =
     let k = s.partition in
     let w = within a b s.start in
     let qs = wake ss a b ps in
     let own : begins s a b (0 + k) ≡ w = ap (λ x. x && w) (eq-eqb k (0 + k) (omega arith)) in
-    each_same _ _ (λ q p. ap (λ x. woken x p) (starts-push ss s a b q) ∙ sym (woken_twice (begins s a b q) (starts ss a b q) p)) 0 ps
-    ∙ sym (each_join (λ q p. woken (begins s a b q) p) (wakes_in ss a b) 0 ps)
-    ∙ each_set (λ q p. woken (begins s a b q) p) 0 k qs d (λ q p n. ap (λ x. woken (x && w) p) (ne_eqb k q (λ m. n (omega arith))))
-    ∙ ap (λ x. set qs k (woken x (get_or qs k d))) own
+    each_same _ _ (λ q p. ap (λ x. started x p) (starts-push ss s a b q) ∙ sym (started_twice (begins s a b q) (starts ss a b q) p)) 0 ps
+    ∙ sym (each_join (λ q p. started (begins s a b q) p) (wakes_in ss a b) 0 ps)
+    ∙ each_set (λ q p. started (begins s a b q) p) 0 k qs d (λ q p n. ap (λ x. started (x && w) p) (ne_eqb k q (λ m. n (omega arith))))
+    ∙ ap (λ x. set qs k (started x (get_or qs k d))) own
 
 -- a turn of the loop over the slots
 pub wake-turn : (ss : List Slot) (i a b : ℕ) (ps : List Partition) (s : Slot) (d : Partition) → i < length ss →
     wake (take (i + 1) ss) a b ps
-    ≡ set (wake (take i ss) a b ps) (get_or ss i s).partition (woken (within a b (get_or ss i s).start) (get_or (wake (take i ss) a b ps) (get_or ss i s).partition d))
+    ≡ set (wake (take i ss) a b ps) (get_or ss i s).partition (started (within a b (get_or ss i s).start) (get_or (wake (take i ss) a b ps) (get_or ss i s).partition d))
 wake-turn ss i a b ps s d l = ap (λ z. wake z a b ps) (take_more ss i s l) ∙ wake-push (take i ss) (get_or ss i s) a b ps d
 
--- a partition that does not sleep is not woken
-woken_awake : (s : Status) (b : Bool) (p : Partition) → p.status ≡ s → is_idle s ≡ false → woken b p ≡ p
-woken_awake s false p e n = refl
-woken_awake Halted true p e n = ap (λ z. with_status (roused z) p) e ∙ ap (λ z. with_status z p) (sym e)
-woken_awake Ready true p e n = ap (λ z. with_status (roused z) p) e ∙ ap (λ z. with_status z p) (sym e)
-woken_awake Idle true p e n = absurd (both_ways true n refl)
-woken_awake Suspended true p e n = ap (λ z. with_status (roused z) p) e ∙ ap (λ z. with_status z p) (sym e)
+-- the start of its slot leaves a partition that does not sleep as it was
+slot_started-awake : (s : Status) (p : Partition) → p.status ≡ s → is_idle s ≡ false → slot_started p ≡ p
+slot_started-awake Halted p e n = ap (λ z. with_status (roused z) p) e ∙ ap (λ z. with_status z p) (sym e)
+slot_started-awake Ready p e n = ap (λ z. with_status (roused z) p) e ∙ ap (λ z. with_status z p) (sym e)
+slot_started-awake Idle p e n = absurd (both_ways true n refl)
+slot_started-awake Suspended p e n = ap (λ z. with_status (roused z) p) e ∙ ap (λ z. with_status z p) (sym e)
+
+started_awake : (b : Bool) (p : Partition) → is_idle p.status ≡ false → started b p ≡ p
+started_awake false p n = refl
+started_awake true p n = slot_started-awake p.status p refl n
 
 each_awake : (ss : List Slot) (a b i : ℕ) (ps : List Partition) → list_any sleeps ps ≡ false → each_from (wakes_in ss a b) i ps ≡ ps
 unfolding each_from
 each_awake ss a b i [] n = refl
 each_awake ss a b i (p ∷ ps) n =
     let m = or_parts (sleeps p) (list_any sleeps ps) n in
-    ap₂ ◌∷◌ (woken_awake p.status (starts ss a b i) p refl m.0) (each_awake ss a b (i + 1) ps m.1)
+    ap₂ ◌∷◌ (started_awake (starts ss a b i) p m.0) (each_awake ss a b (i + 1) ps m.1)
 
 -- where nobody sleeps nobody wakes
 pub wake_awake : (ss : List Slot) (a b : ℕ) (ps : List Partition) → list_any sleeps ps ≡ false → ps ≡ wake ss a b ps
 unfolding wake
 wake_awake ss a b ps n = sym (each_awake ss a b 0 ps n)
+
+-- .. nor do two plans one after the other
+pub both_awake : (ss ts : List Slot) (a b c d : ℕ) (ps : List Partition) → list_any sleeps ps ≡ false → ps ≡ wake ts c d (wake ss a b ps)
+both_awake ss ts a b c d ps n = wake_awake ts c d ps n ∙ ap (wake ts c d) (wake_awake ss a b ps n)

@@ -2,15 +2,15 @@
 use Rattle.std.proofs.Common.{◌≡◌, ℕ, suc, ◌+◌, ◌-◌, ◌*◌, ◌<◌, ◌≤◌, Bool, true, false, cond, List, [], ◌++◌, length, take, drop, Some, None, Option, sym, ap, ◌∙◌, ap₂, arith, le-leb, nat_eq, true-eqb}
 use borrow.Author.Tests.{lt-leb}
 use Rattle.std.proofs.lemmas.List.{take_all, take-append-drop, nil_from_length}
-use Rattle.vector.specs.declared.tables.Tables.{Tables}
+use Rattle.tables.specs.declared.Tables.{Tables}
 use Rattle.machine.specs.declared.event.Event.{Event}
 use Rattle.machine.specs.declared.answer.Reply.{Reply}
 use Rattle.machine.specs.State.{State}
 use Rattle.machine.specs.Step.{step}
 use Rattle.machine.specs.Runs.{after, lines}
 use Rattle.kernel.specs.World.{World, Moved, gives, stepped}
-use Rattle.script.specs.Format.{first, beyond}
-use Rattle.entrance.specs.Encoding.{bytes_of, encoded, laid, put}
+use Rattle.events.specs.Records.{first, beyond}
+use Rattle.entrance.specs.Encoding.{answer_bytes, bytes_of, encoded, laid, put}
 use Rattle.entrance.specs.Session.{Read, before, read_after, read_of, room_in, Ending, answered, answered, malformed, full, records_end, taken, written, reached}
 use Rattle.entrance.proofs.Putting.{put_on}
 use Rattle.entrance.proofs.Reading.{read-then}
@@ -25,12 +25,12 @@ pub record Underway (z : World) (records old : List ℕ) (w : World) (rest new :
   pub fits : count ≤ room_in old
   pub whole : (read_of rest).whole ≡ (read_of records).whole
   pub counts : count + length (read_of rest).events ≡ length (read_of records).events
-  pub bytes : take (12 * count) new ++ laid (told z.tables w.state (take (room_in old - count) (read_of rest).events)) (drop (12 * count) new) ≡ written z (read_of records) old
+  pub bytes : take (answer_bytes * count) new ++ laid (told z.tables w.state (take (room_in old - count) (read_of rest).events)) (drop (answer_bytes * count) new) ≡ written z (read_of records) old
   pub state : after z.tables w.state (take (room_in old - count) (read_of rest).events) ≡ after z.tables z.state (taken (read_of records) old)
 
 module _ (z : World) (records old : List ℕ) (w : World) (rest new : List ℕ) (count : ℕ) (u : Underway z records old w rest new count) where
-  pub onward : (v : World) (rest' new' : List ℕ) (e : Event) (r : Reply) → count < room_in old → 12 * count + 12 ≤ length new → false ≡ nat_eq (length rest) 0 →
-      first rest ≡ Some e → rest' ≡ beyond 4 rest → gives v r ≡ stepped e w → new' ≡ put (12 * count) (bytes_of r) new → Underway z records old v rest' new' (count + 1)
+  pub onward : (v : World) (rest' new' : List ℕ) (e : Event) (r : Reply) → count < room_in old → answer_bytes * count + answer_bytes ≤ length new → false ≡ nat_eq (length rest) 0 →
+      first rest ≡ Some e → rest' ≡ beyond 4 rest → gives v r ≡ stepped e w → new' ≡ put (answer_bytes * count) (bytes_of r) new → Underway z records old v rest' new' (count + 1)
   unfolding encoded lines after
   onward v rest' new' e r h i l f b g p =
       let k = z.tables in
@@ -42,7 +42,7 @@ module _ (z : World) (records old : List ℕ) (w : World) (rest new : List ℕ) 
       let left = room_in old - (count + 1) in
       let n : room_in old - count ≡ suc left = omega arith in
       let es = take left (read_of rest').events in
-      let m : 12 * (count + 1) ≡ 12 * count + 12 = omega arith in
+      let m : answer_bytes * (count + 1) ≡ answer_bytes * count + answer_bytes = omega arith in
       record {
         tables = ap (λ (m : Moved). m.tables) g ∙ u.tables;
         fits = omega arith;
@@ -50,9 +50,9 @@ module _ (z : World) (records old : List ℕ) (w : World) (rest new : List ℕ) 
         counts = omega (arith, ap (λ (q : Read). length q.events) q, u.counts);
         bytes =
             ap₂ (λ (n : ℕ) (x : List ℕ). take n x ++ laid (told k v.state es) (drop n x)) m p
-            ∙ (put_on (12 * count) (bytes_of r) (told k v.state es) new i
-            ∙ (ap₂ (λ (p : Reply) (s : State). take (12 * count) new ++ laid (bytes_of p ++ told k s es) (drop (12 * count) new)) a s
-            ∙ (ap₂ (λ (n : ℕ) (q : Read). take (12 * count) new ++ laid (told k w.state (take n q.events)) (drop (12 * count) new)) (sym n) (sym q)
+            ∙ (put_on (answer_bytes * count) (bytes_of r) (told k v.state es) new i
+            ∙ (ap₂ (λ (p : Reply) (s : State). take (answer_bytes * count) new ++ laid (bytes_of p ++ told k s es) (drop (answer_bytes * count) new)) a s
+            ∙ (ap₂ (λ (n : ℕ) (q : Read). take (answer_bytes * count) new ++ laid (told k w.state (take n q.events)) (drop (answer_bytes * count) new)) (sym n) (sym q)
             ∙ u.bytes)));
         state =
             ap (λ (x : State). after k x es) s
@@ -67,8 +67,8 @@ module _ (z : World) (records old : List ℕ) (w : World) (rest new : List ℕ) 
   stands : take (room_in old - count) (read_of rest).events ≡ [] → Stands
   unfolding encoded lines after
   stands e = (
-    sym (take-append-drop (12 * count) new)
-        ∙ (ap (λ (es : List Event). take (12 * count) new ++ laid (told z.tables w.state es) (drop (12 * count) new)) (sym e)
+    sym (take-append-drop (answer_bytes * count) new)
+        ∙ (ap (λ (es : List Event). take (answer_bytes * count) new ++ laid (told z.tables w.state es) (drop (answer_bytes * count) new)) (sym e)
         ∙ u.bytes),
     ap₂ (λ (k : Tables) (x : State). record { tables = k; state = x }) u.tables (ap (after z.tables w.state) (sym e) ∙ u.state),
   )

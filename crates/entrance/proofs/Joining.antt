@@ -1,7 +1,7 @@
 -- The records say what a script's say.
 use Rattle.std.proofs.Common.{◌≡◌, ℕ, zero, suc, ◌+◌, Bool, true, false, cond, List, [], ◌∷◌, Some, None, Option, refl, ap, ◌∙◌}
 use Rattle.machine.specs.declared.event.Event.{Event}
-use Rattle.script.specs.Format.{short_at, first, followed, events_after, events_of}
+use Rattle.events.specs.Records.{short_at, first, followed, events_after, events_of}
 use Rattle.entrance.specs.Session.{Read, before, read_after, read_of, events_in}
 
 followed-whole : (e : Event) (es : List Event) (w : Bool) → followed (Some e) (cond w (Some es) None) ≡ cond w (Some (e ∷ es)) None

@@ -1,7 +1,7 @@
 -- The records one by one.
 use Rattle.std.proofs.Common.{◌≡◌, ℕ, zero, suc, ◌+◌, List, [], ◌∷◌, length, drop, refl, ap, ◌∙◌, arith, nat_eq, false, false-eqb}
-use Rattle.script.proofs.Records.{drop_more}
-use Rattle.script.specs.Format.{short_at, first, beyond}
+use Rattle.events.proofs.Records.{drop_more}
+use Rattle.events.specs.Records.{short_at, first, beyond}
 use Rattle.entrance.specs.Session.{before, read_after, read_of}
 
 skipped : (k : ℕ) (bs : List ℕ) → read_after k bs ≡ read_of (drop k bs)

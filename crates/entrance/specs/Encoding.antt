@@ -9,7 +9,11 @@ use Rattle.machine.specs.Runs.{Line}
 abbrev pub long : ℕ → List ℕ
 long n = (n % 256) ∷ (n / 256 % 256) ∷ (n / 65536 % 256) ∷ (n / 16777216 % 256) ∷ []
 
--- an answer in twelve bytes: its code (a negative one counted from 2 ^ 32 down), a and b
+-- how many bytes an answer has
+abbrev pub answer_bytes : ℕ
+answer_bytes = 12
+
+-- an answer in its bytes: its code (a negative one counted from 2 ^ 32 down), a and b
 abbrev pub bytes_of : Reply → List ℕ
 bytes_of r = long (of_z w32 r.code) ++ (long r.a ++ long r.b)
 

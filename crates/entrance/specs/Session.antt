@@ -1,13 +1,15 @@
 -- What event records say, and what they are answered.
-use Rattle.std.specs.Prelude.{ℕ, zero, suc, ◌+◌, ◌/◌, Bool, true, false, cond, ◌&&◌, List, [], ◌∷◌, length, take, Some, None, Option, Ok, Err, Result, nat_le}
-use Rattle.vector.specs.Reading.{Verdict, taken as is_taken, refused as is_refused}
+use Rattle.std.specs.Prelude.{◌≡◌, ℕ, zero, suc, ◌+◌, ◌/◌, Bool, true, false, cond, if◌then◌else◌, ◌&&◌, List, [], ◌∷◌, length, take, Some, None, Option, Ok, Err, Result, nat_le}
+use Rattle.board.specs.Areas.{Area}
+use Rattle.vector.specs.Reading.{Verdict, taken as is_taken, refused as is_refused, takes, tables}
 use Rattle.vector.specs.Reasons.{reason}
-use Rattle.vector.specs.declared.fault.Layer.{Layer}
+use Rattle.vector.specs.declared.refusal.Layer.{Layer}
 use Rattle.machine.specs.declared.event.Event.{Event}
 use Rattle.machine.specs.Runs.{after, lines}
-use Rattle.kernel.specs.World.{World}
-use Rattle.script.specs.Format.{short_at, first}
-use Rattle.entrance.specs.Encoding.{encoded, laid}
+use Rattle.kernel.specs.World.{World, booted}
+use Rattle.events.specs.Records.{short_at, first}
+use Rattle.zero_boards.specs.Layouts.{zeroed}
+use Rattle.entrance.specs.Encoding.{answer_bytes, encoded, laid}
 use Rattle.entrance.specs.declared.error.EntranceError.{EntranceError}
 use Rattle.entrance.specs.declared.error.EntranceError.TheVariants.{Vector, Malformed, NoRoom}
 
@@ -18,7 +20,7 @@ pub record Read : Type 0 where
 
 abbrev pub before : Option Event → Read → Read
 before None r = record { events = []; whole = false }
-before (Some e) r = record { events = e ∷ r.events; whole = r.whole }
+before (Some e) r = record r { events = e ∷ r.events }
 
 -- of bytes whose next `skip` belong to a record that was read
 unfoldable pub read_after : ℕ → List ℕ → Read
@@ -35,7 +37,7 @@ events_in r = cond r.whole (Some r.events) None
 
 -- how many answers there is room for
 abbrev pub room_in : List ℕ → ℕ
-room_in bs = length bs / 12
+room_in bs = length bs / answer_bytes
 
 -- all events are answered, or some record is malformed or without room for its answer
 abbrev pub count_of : Read → ℕ → Option ℕ
@@ -79,4 +81,20 @@ written w r old = laid (encoded (lines w.tables w.state (taken r old))) old
 
 -- where they bring the world
 abbrev pub reached : World → Read → List ℕ → World
-reached w r old = record { tables = w.tables; state = after w.tables w.state (taken r old) }
+reached w r old = record w { state = after w.tables w.state (taken r old) }
+
+-- the records bring the world there
+abbrev pub Reaches : World → List ℕ → List ℕ → World → Type 0
+Reaches w records old v = v ≡ reached w (read_of records) old
+
+-- the bytes of a vector's answers, booted on these areas
+abbrev pub answers_from : List ℕ → List Area → List ℕ → List ℕ → List ℕ
+answers_from vector areas records old = written (booted (tables vector) areas) (read_of records) old
+
+-- the same from areas of zeros on; a vector that is refused leaves the old bytes
+abbrev pub answers_of : List ℕ → List ℕ → List ℕ → List ℕ
+answers_of vector records old = if takes vector then answers_from vector (zeroed (tables vector)) records old else old
+
+-- how many events of a vector's records are answered, where all are
+abbrev pub answers_in : List ℕ → List ℕ → List ℕ → Option ℕ
+answers_in vector records old = if takes vector then count_of (read_of records) (room_in old) else None

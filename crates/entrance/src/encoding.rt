@@ -1,11 +1,14 @@
 // The bytes of a reply.
 ghost use Rattle.std.specs.Prelude.{◌≡◌, ◌+◌, ◌≤◌, length};
-ghost use Rattle.entrance.specs.Encoding.{bytes_of, put};
+ghost use Rattle.entrance.specs.Encoding.{answer_bytes, bytes_of, put};
 
 use machine::answer::Reply;
 
+/// How many bytes an answer has.
+pub const ANSWER_BYTES: usize = 12;
+
 /// Code, a and b, four bytes each.
-fn encode(reply: Reply) -> [u8; 12]
+fn encode(reply: Reply) -> [u8; ANSWER_BYTES]
     ensures { result ≡ bytes_of reply }
 {
     let Reply { code, a, b } = reply;
@@ -17,8 +20,8 @@ fn encode(reply: Reply) -> [u8; 12]
 
 /// Writes a reply at a place.
 pub(crate) fn write_reply(reply: Reply, answers: &mut [u8], at: usize)
-    requires { at + 12 ≤ length answers.old }
+    requires { at + answer_bytes ≤ length answers.old }
     ensures { answers.new ≡ put at (bytes_of reply) answers.old }
 {
-    answers[at..at + 12].copy_from_slice(&encode(reply));
+    answers[at..at + ANSWER_BYTES].copy_from_slice(&encode(reply));
 }

@@ -2,7 +2,7 @@
 ghost use Rattle.std.specs.Prelude.{◌≡◌};
 ghost use Rattle.entrance.specs.declared.error.EntranceError.TheVariants.{Vector};
 
-use vector::fault::Refusal;
+use vector::refusal::Refusal;
 
 #[derive(Clone, Copy, Debug, PartialEq, Eq)]
 pub enum EntranceError {

@@ -3,19 +3,16 @@ use Rattle.std.proofs.Common.{◌≡◌, ℕ, zero, suc, ◌+◌, ◌<◌, ◌�
 use Rattle.std.proofs.lemmas.Bool.{and_parts, cases_eq, cases_lt, cond-false, lt-ltb, ltb-true, both_ways, ne_eqb}
 use Rattle.std.proofs.lemmas.List.{set-get_or}
 use Rattle.std.proofs.lemmas.Nat.Bits.{bit_at-zero}
-use Rattle.vector.specs.Fields.{has_bit}
-use Rattle.vector.specs.declared.tables.Tables.{Tables}
+use Rattle.tables.specs.Bits.{has_bit}
+use Rattle.tables.specs.declared.Tables.{Tables}
 use Rattle.machine.specs.declared.partition.Partition.{Partition}
 use Rattle.machine.specs.Partitions.{nobody, is_open, signalled}
 use Rattle.machine.specs.Ports.{alert, alerted, message_bit}
 use Rattle.machine.specs.Questions.{port, hears}
 use Rattle.machine.specs.State.{modify}
-use Rattle.lookup.specs.Index.{listens}
-use Rattle.lookup.specs.Masks.{Lowest}
-
--- a partition told of a message, where its port is open
-abbrev told : ℕ → Partition → Partition
-told i p = cond (is_open i p) (signalled message_bit p) p
+use Rattle.kernel.specs.Channels.{told}
+use Rattle.config.specs.Index.{listens}
+use Rattle.config.specs.Masks.{Lowest}
 
 module _ (k : Tables) (c : ℕ) (ps : List Partition) where
   -- a port that does not hear tells nobody, and one that hears its partition

@@ -1,7 +1,8 @@
 -- A run goes on by one event.
 use Rattle.std.proofs.Common.{◌≡◌, ℕ, ◌+◌, ◌<◌, ◌≤◌, List, [], ◌∷◌, ◌++◌, length, get_or, take, drop, set, sym, ap, ◌∙◌, ap₂, arith, Result}
+use Rattle.board.specs.Areas.{Area}
 use Rattle.std.proofs.lemmas.List.{drop_more, drop_all, drop-set-lt, take_all, take_more_set, map_push, append_assoc, append-nil}
-use Rattle.vector.specs.declared.tables.Tables.{Tables}
+use Rattle.tables.specs.declared.Tables.{Tables}
 use Rattle.machine.specs.declared.event.Exchange.{Exchange}
 use Rattle.machine.specs.declared.answer.Answer.{Answer}
 use Rattle.machine.specs.declared.answer.Refusal.{Refusal}
@@ -50,7 +51,7 @@ onward z h w v i g r d b e u =
           ∙ (ap (λ (l : List Exchange). lines_of (take i g) ++ lines k w.state (events_of l)) (sym c) ∙ u.told))));
     }
 
-pub over : (k : Tables) (ms : List (List ℕ)) (z : World) (h : List Exchange) (w : World) (i : ℕ) (g : List Exchange) →
+pub over : (k : Tables) (ms : List Area) (z : World) (h : List Exchange) (w : World) (i : ℕ) (g : List Exchange) →
     z ≡ booted k ms → length g ≤ i → Underway z h w i g →
     (w ≡ ended k ms (events_of h)) × (lines_of g ≡ lines k (boot k ms) (events_of h))
 unfolding after lines

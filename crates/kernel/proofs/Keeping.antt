@@ -1,21 +1,16 @@
 -- What the machine keeps, the run keeps.
 use Rattle.std.proofs.Common.{◌≡◌, ℕ, Bool, true, false, cond, List, [], ◌∷◌, sym, refl, ap, ◌∙◌, subst, ap₂}
-use Rattle.vector.specs.declared.tables.Tables.{Tables}
-use Rattle.vector.specs.declared.tables.ChannelKind.TheVariants.{Queuing}
-use Rattle.vector.specs.declared.tables.Direction.{Direction}
-use Rattle.vector.specs.declared.tables.Direction.TheVariants.{Source, Destination}
-use Rattle.vector.specs.Fair.{Fair}
-use Rattle.vector.specs.Laws as vector
-use Rattle.vector.specs.Sound.{Sound}
+use Rattle.board.specs.Areas.{area, Area}
+use Rattle.tables.specs.declared.Tables.{Tables}
+use Rattle.tables.specs.Fair.{Fair}
+use Rattle.tables.specs.Laws as vector
+use Rattle.tables.specs.Sound.{Sound}
 use Rattle.machine.specs.declared.event.Event.{Event}
 use Rattle.machine.specs.declared.answer.Reply.{Reply}
-use Rattle.machine.specs.Questions.{is_source}
-use Rattle.machine.specs.State.{Core, State, area}
+use Rattle.machine.specs.State.{Core, State}
 use Rattle.machine.specs.Step.{step, boot}
 use Rattle.machine.specs.Runs.{Line, after, lines}
-use Rattle.machine.specs.Isolation as machine
-use Rattle.machine.specs.Isolation.{kept, is_of, Sight, sight, sights, Sheet, sheet, answers_to}
-use Rattle.machine.proofs.Names.{kinds}
+use Rattle.machine.specs.Isolation.{kept, is_of, Sight, sight, sights, Sheet, answers_to}
 use Rattle.machine.proofs.Theorem.{isolated}
 use Rattle.machine.specs.Laws.{Steady}
 use Rattle.machine.proofs.Integrity.{integral, preserved}
@@ -25,21 +20,6 @@ use Rattle.machine.proofs.Outcomes.{planned}
 use Rattle.machine.proofs.Bounds.{steady, lasting}
 use Rattle.kernel.specs.World.{World, Moved, gives, stepped, ended}
 use Rattle.kernel.specs.Promises.{picked, Isolating, Apart, Unmoved, Planned, Lasting, Lawful, Preserving}
-
-source : (d : Direction) → is_source d ≡ true → d ≡ Source
-source Source e = refl
-source Destination e = cc
-
-destination : (d : Direction) → is_source d ≡ false → d ≡ Destination
-destination Source e = cc
-destination Destination e = refl
-
--- what the vector says of its ports is what isolation asks
-fair : (k : Tables) → Fair k → machine.Fair k
-fair k f = (
-  (λ i j a b e s t. f.2 i j (a, b, e) (source _ s) (source _ t)),
-  (λ i j a b e q s t. f.3 i j (a, b, e) (kinds _ Queuing q) (destination _ s) (destination _ t)),
-)
 
 picked_all : (p : ℕ) (k : Tables) (h : List Event) (s : State) → picked k p (lines k s h) ≡ answers_to p k s h
 unfolding lines
@@ -64,9 +44,9 @@ last-sight p M k (e ∷ es) s d = one (kept k M e) _ _ _ (last-sight p M k es (s
     one true x xs y f = f x
     one false x xs y f = f d
 
-pub isolating : (k : Tables) (ms : List (List ℕ)) (h : List Event) (ls : List Line) (w : World) → Fair k → w ≡ ended k ms h → ls ≡ lines k (boot k ms) h → Isolating k ms h ls w.state
+pub isolating : (k : Tables) (ms : List Area) (h : List Event) (ls : List Line) (w : World) → Fair k → w ≡ ended k ms h → ls ≡ lines k (boot k ms) h → Isolating k ms h ls w.state
 isolating k ms h ls w n e f p x y M c ns l a b z i q =
-    let v = isolated k (fair k n) ms h p x y M c ns l a b z i q in (
+    let v = isolated k n.2 n.3 ms h p x y M c ns l a b z i q in (
       ap (picked k p) f ∙ (picked_all p k h (boot k ms) ∙ ap (λ (v : Sheet). v.told) v),
       ap (λ (u : World). sight p u.state) e
           ∙ (sym (last-sight p M k h (boot k ms) (sight p (boot k ms)))
@@ -74,7 +54,7 @@ isolating k ms h ls w n e f p x y M c ns l a b z i q =
       v,
     )
 
-pub preserving : (k : Tables) (ms : List (List ℕ)) (h : List Event) (w : World) → w ≡ ended k ms h → Preserving k h ms w.state.areas
+pub preserving : (k : Tables) (ms : List Area) (h : List Event) (w : World) → w ≡ ended k ms h → Preserving k h ms w.state.areas
 preserving k ms h w e r n = ap (λ (u : World). area u.state.areas r) e ∙ preserved k (boot k ms) h r n
 
 pub apart : (w v : World) (e : Event) (r : Reply) → gives v r ≡ stepped e w → Apart w.tables e w.state.areas v.state.areas
@@ -105,5 +85,5 @@ module _ (k : Tables) (f : Sound k) (l : vector.Lawful k) where
         served = served k x l p;
       }
 
-  pub lawful : (ms : List (List ℕ)) (h : List Event) (w : World) → w ≡ ended k ms h → Lawful k w.state.core
+  pub lawful : (ms : List Area) (h : List Event) (w : World) → w ≡ ended k ms h → Lawful k w.state.core
   lawful ms h w e = subst (λ (u : World). Lawful k u.state.core) (sym e) (lawful-steady _ (steady k ms h))

@@ -1,9 +1,8 @@
-pub mod Going
-pub mod Gapping
-pub mod Keeping
-pub mod Grounding
-pub mod Channelling
-pub mod Turning
 pub mod Alerting
+pub mod Channelling
+pub mod Going
+pub mod Grounding
+pub mod Keeping
+pub mod Running
 pub mod Sending
-mod Rows
+pub mod Turning

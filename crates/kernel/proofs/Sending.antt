@@ -1,7 +1,7 @@
 -- A send that is refused.
 use Rattle.std.proofs.Common.{◌≡◌, ℕ, Bool, true, false, cond, List, Ok, Err, Result, ap}
-use Rattle.vector.specs.declared.tables.ChannelKind.{ChannelKind}
-use Rattle.vector.specs.declared.tables.Tables.{Tables}
+use Rattle.tables.specs.declared.channel.ChannelKind.{ChannelKind}
+use Rattle.tables.specs.declared.Tables.{Tables}
 use Rattle.machine.specs.declared.answer.Refusal.{Refusal}
 use Rattle.machine.specs.declared.answer.Refusal.TheVariants.{InvalidMode, InvalidParam}
 use Rattle.machine.specs.Ports.{sending}

@@ -1,7 +1,6 @@
-pub mod Soundness
 pub mod Channels
-pub mod Turns
 pub mod World
+pub mod Events
 pub mod Decisions
 pub mod Promises
 pub mod Targets

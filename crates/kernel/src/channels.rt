@@ -5,7 +5,7 @@ ghost use Rattle.queue.specs.Ring.{first, rest};
 ghost use Rattle.machine.specs.Letters.{letter_of};
 ghost use Rattle.kernel.specs.Channels.{chan_of};
 
-use crate::below::ChannelNumber;
+use config::ChannelNumber;
 use machine::message::Message;
 use queue::Queue;
 use std::array;

@@ -1,15 +1,14 @@
 // Bytes from an area, and back into it. A range is a board, an area's number, an offset and a length, and that it lies in the area
 // is a fact of the board's bytes: a struct that keeps the fact would hold the loan of the board, once for reading and once for writing.
-ghost use Rattle.std.specs.Prelude.{◌≡◌, ℕ, ◌+◌, ◌≤◌, length, slice_set};
-ghost use Rattle.vector.specs.Names.{padded};
+ghost use Rattle.std.specs.Prelude.{◌≡◌, ℕ, ◌+◌, ◌≤◌, length};
+ghost use Rattle.tables.specs.Names.{padded};
 ghost use Rattle.machine.specs.Letters.{letter_of};
-ghost use Rattle.machine.specs.State.{area};
-ghost use Rattle.machine.specs.Ports.{ranged, part, patched};
+ghost use Rattle.board.specs.Areas.{area, patched_in, ranged, part};
 
 use board::Board;
 use machine::clock::Time;
 use machine::message::Message;
-use vector::tables::Name;
+use tables::Name;
 
 /// Whether a range lies in the area; the sum of two 32-bit numbers is taken as it is.
 pub(crate) fn is_ranged<B: Board>(board: &B, i: usize, at: u32, n: u32) -> bool
@@ -61,7 +60,7 @@ pub(crate) fn load_name<B: Board>(board: &B, i: usize, at: u32, n: u32) -> Name
 /// Writes a message into an area.
 pub(crate) fn store_message<B: Board>(m: &Message, board: &mut B, i: usize, at: u32)
     requires inside { at + length (letter_of m.now).bytes ≤ length (area (B.areas board.old) i) }
-    ensures { B.areas board.new ≡ slice_set (B.areas board.old) i (patched (area (B.areas board.old) i) at (letter_of m.now).bytes) }
+    ensures { B.areas board.new ≡ patched_in (B.areas board.old) i at (letter_of m.now).bytes }
 {
     let _ = board.store_range(i, at as usize, &m.bytes[..m.size()]);
 }

@@ -1,17 +1,13 @@
-// The state of the core, without the board.
+// The state of the core, without the board: what the vector decides, and what events change.
 use crate::channels::Channels;
 use crate::log::Log;
-use crate::turn::Turn;
-use lookup::Index;
-use machine::clock::{Clock, Time};
+use config::{Config, Turn};
+use machine::clock::Clock;
 use machine::partition::Partition;
-use vector::tables::Tables;
 
 #[derive(Drop)]
 pub struct Core {
-    pub(crate) tables: Tables,
-    pub(crate) index: Index,
-    pub(crate) slotless: [Time; 4],
+    pub(crate) config: Config,
     pub(crate) clock: Clock,
     pub(crate) turn: Turn,
     pub(crate) halted: bool,

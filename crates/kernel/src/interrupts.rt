@@ -1,17 +1,14 @@
 // The calls on interrupts, and the signals of lines.
 ghost use Rattle.std.specs.Prelude.{◌≡◌, ℕ, ◌^◌, ◌<◌, ◌≤◌, if◌then◌else◌};
-ghost use Rattle.machine.specs.Answers.{reply_of};
 ghost use Rattle.machine.specs.declared.answer.Answer.TheVariants.{Done, Words};
 ghost use Rattle.machine.specs.Shapes.{Shaped};
 ghost use Rattle.machine.specs.Partitions.{signalled};
 ghost use Rattle.machine.specs.Interrupts.{raised, raise_ipvi, get_irqs, set_irq_mask, clear_irq_mask, clear_irq_pending};
-ghost use Rattle.machine.specs.Interrupts.{line as line_of};
-ghost use Rattle.kernel.specs.World.{core_of, world_of, gives, settled, performed};
+ghost use Rattle.kernel.specs.Events.{Does, Signals};
 
-use crate::below::Guest;
-use crate::whole::System;
+use crate::system::System;
 use board::Board;
-use lookup::{is_member, mask_of, owner_of};
+use config::{Below, Guest, is_member};
 use machine::answer::{Answer, Outcome, Refusal};
 use machine::event::Args;
 use machine::partition::Partition;
@@ -30,20 +27,20 @@ fn raise(parts: &mut [Partition; 8], mask: u8, bits: u32)
     ensures { parts.new ≡ raised mask bits 8 parts.old }
 {
     for (i, partition) in parts.iter_mut().enumerate() {
-        hit(partition, is_member(mask, i as u8), bits);
+        hit(partition, is_member(mask, Guest::new(i as u8)), bits);
     }
 }
 
 impl<B: Board> System<B> {
     pub(crate) fn raise_ipvi(&mut self, q: Guest, args: Args) -> Outcome
-        ensures is { gives (world_of B.areas self.new) (reply_of result) ≡ performed raise_ipvi q args (world_of B.areas self.old) }
+        ensures is { Does B.areas raise_ipvi q args self.old result self.new }
         ensures shaped { Shaped Done result }
     {
         let number = args[0];
         if number > 7 {
             return Err(Refusal::InvalidParam);
         }
-        let mask = mask_of(&self.core.tables, q.number(), number as u8);
+        let mask = self.core.config.mask_of(q, Below::new(number as u8));
         if mask == 0 {
             return Err(Refusal::NoAction);
         }
@@ -52,7 +49,7 @@ impl<B: Board> System<B> {
     }
 
     pub(crate) fn get_irqs(&mut self, q: Guest, args: Args) -> Outcome
-        ensures is { gives (world_of B.areas self.new) (reply_of result) ≡ performed get_irqs q args (world_of B.areas self.old) }
+        ensures is { Does B.areas get_irqs q args self.old result self.new }
         ensures shaped { Shaped (Words 0 0) result }
     {
         let Partition { pending, mask, .. } = self.core.parts[q.index()];
@@ -61,7 +58,7 @@ impl<B: Board> System<B> {
 
     // the three calls below are one line each, with a method of their own
     pub(crate) fn set_irq_mask(&mut self, q: Guest, args: Args) -> Outcome
-        ensures is { gives (world_of B.areas self.new) (reply_of result) ≡ performed set_irq_mask q args (world_of B.areas self.old) }
+        ensures is { Does B.areas set_irq_mask q args self.old result self.new }
         ensures shaped { Shaped Done result }
     {
         self.core.parts[q.index()].mask(args[0]);
@@ -69,7 +66,7 @@ impl<B: Board> System<B> {
     }
 
     pub(crate) fn clear_irq_mask(&mut self, q: Guest, args: Args) -> Outcome
-        ensures is { gives (world_of B.areas self.new) (reply_of result) ≡ performed clear_irq_mask q args (world_of B.areas self.old) }
+        ensures is { Does B.areas clear_irq_mask q args self.old result self.new }
         ensures shaped { Shaped Done result }
     {
         self.core.parts[q.index()].unmask(args[0]);
@@ -77,7 +74,7 @@ impl<B: Board> System<B> {
     }
 
     pub(crate) fn clear_irq_pending(&mut self, q: Guest, args: Args) -> Outcome
-        ensures is { gives (world_of B.areas self.new) (reply_of result) ≡ performed clear_irq_pending q args (world_of B.areas self.old) }
+        ensures is { Does B.areas clear_irq_pending q args self.old result self.new }
         ensures shaped { Shaped Done result }
     {
         self.core.parts[q.index()].acknowledge(args[0]);
@@ -86,14 +83,15 @@ impl<B: Board> System<B> {
 
     /// A line signals its own bit to its owner.
     pub(crate) fn line(&mut self, line: u8) -> Outcome
-        ensures is { gives (world_of B.areas self.new) (reply_of result) ≡ settled 0 (line_of self.old.core.tables (core_of self.old.core) line) (world_of B.areas self.old) }
+        ensures is { Signals B.areas line self.old result self.new }
         ensures shaped { Shaped Done result }
     {
         if line > 15 {
             return Err(Refusal::InvalidParam);
         }
-        let q = owner_of(&self.core.tables, line).ok_or(Refusal::NoAction)?;
-        self.core.parts[q as usize].signal(1 << (16 + line));
+        let owner = self.core.config.owner_of(Below::new(line));
+        let q = owner.ok_or(Refusal::NoAction)?;
+        self.core.parts[q.index()].signal(1 << (16 + line));
         Ok(Answer::Done)
     }
 }

@@ -1,8 +1,8 @@
 //! The core: it boots a checked vector on a board and takes events.
 #![tactic(auto)]
 
+mod access;
 mod areas;
-mod below;
 mod channels;
 mod copies;
 mod faults;
@@ -14,10 +14,7 @@ mod management;
 mod messages;
 mod monitor;
 mod ports;
-mod schedule;
 mod system;
-mod turn;
-mod whole;
 
 pub use history::run;
-pub use whole::System;
+pub use system::System;

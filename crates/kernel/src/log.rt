@@ -5,8 +5,7 @@ ghost use Rattle.queue.specs.Ring.{first, rest, over};
 use machine::log::Entry;
 use queue::Queue;
 use std::marker::Model;
-use vector::record::Scope;
-use vector::tables::Action;
+use tables::{Action, Scope};
 
 #[derive(Drop)]
 pub struct Log {

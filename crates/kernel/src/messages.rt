@@ -1,24 +1,21 @@
 // The calls that send and receive messages.
-ghost use Rattle.std.specs.Prelude.{◌≡◌, ℕ, ◌+◌, ◌<◌, ◌≤◌, ◌&&◌, if◌then◌else◌, [], ◌∷◌, ◌++◌, length};
-ghost use Rattle.machine.specs.Answers.{reply_of};
+ghost use Rattle.std.specs.Prelude.{◌≡◌, ℕ, ◌+◌, ◌<◌, ◌≤◌, length};
 ghost use Rattle.machine.specs.declared.answer.Answer.TheVariants.{Done, Received, Waiting};
 ghost use Rattle.machine.specs.Shapes.{Shaped};
-ghost use Rattle.machine.specs.Partitions.{is_open, signalled};
-ghost use Rattle.machine.specs.Ports.{message_bit, alerted, part, posted, write_sampling_message, send_queuing_message, read_sampling_message, receive_queuing_message, get_queuing_status};
-ghost use Rattle.machine.specs.State.{area};
-ghost use Rattle.kernel.specs.Channels.{chan_of};
-ghost use Rattle.kernel.specs.World.{core_of, world_of, with_core, gives, performed};
+ghost use Rattle.machine.specs.Ports.{alerted, write_sampling_message, send_queuing_message, read_sampling_message, receive_queuing_message, get_queuing_status};
+ghost use Rattle.board.specs.Areas.{area};
+ghost use Rattle.kernel.specs.Channels.{chan_of, told};
+ghost use Rattle.kernel.specs.Events.{Does, Posts};
 
-use crate::below::{Below, ChannelNumber, Guest};
 use crate::copies::{load_message, store_message};
-use crate::whole::System;
+use crate::system::System;
 use board::Board;
-use lookup::{Directory, take_lowest};
+use config::{Below, ChannelNumber, Config, Guest, take_lowest};
 use machine::answer::{Answer, Outcome, Refusal};
 use machine::event::Args;
 use machine::message::Message;
 use machine::partition::Partition;
-use vector::tables::ChannelKind;
+use tables::ChannelKind;
 
 /// The bit that signals a message.
 const MESSAGE: u32 = 1 << 8;
@@ -27,7 +24,7 @@ const MESSAGE: u32 = 1 << 8;
 /// Tells a partition of a message, where its port is open.
 fn tell(partition: &mut Partition, port: u8)
     requires { port < 32 }
-    ensures { partition.new ≡ (if is_open port partition.old then signalled message_bit partition.old else partition.old) }
+    ensures { partition.new ≡ told port partition.old }
 {
     if partition.is_open(port) {
         partition.signal(MESSAGE);
@@ -35,12 +32,12 @@ fn tell(partition: &mut Partition, port: u8)
 }
 
 /// Tells the partition of each open port that hears of the channel.
-fn alert(directory: &Directory, parts: &mut [Partition; 8], c: ChannelNumber)
-    ensures { parts.new ≡ alerted directory.now.tables.now c directory.now.tables.now.ports.count parts.old }
+fn alert(config: &Config, parts: &mut [Partition; 8], c: ChannelNumber)
+    ensures { parts.new ≡ alerted config.now.tables c config.now.tables.ports.count parts.old }
 {
-    let mut left = directory.hearing(c.number());
+    let mut left = config.hearing(c.number());
     while let Some(i) = take_lowest(&mut left) {
-        let port = &directory.tables.ports.rows[i as usize];
+        let port = &config.tables.ports.rows[i as usize];
         tell(&mut parts[port.partition as usize], i);
     }
 }
@@ -53,19 +50,18 @@ impl<B: Board> System<B> {
         requires room { length (chan_of self.old.core.channels c) < 8 }
         requires short { n ≤ 64 }
         requires inside { at + n ≤ length (area (B.areas self.old.board) q) }
-        ensures { world_of B.areas self.new ≡ with_core (posted self.old.core.tables (core_of self.old.core) c (chan_of self.old.core.channels c ++ (record { bytes = part (area (B.areas self.old.board) q) at n; time = self.old.core.clock.time } ∷ []))) (world_of B.areas self.old) }
+        ensures { Posts B.areas q c at n self.old self.new }
     {
         let time = self.core.clock.time;
         let mut message = Message::blank();
         load_message(&mut message, &self.board, q.index(), at, n, time);
         self.core.channels.append(c, message);
-        let directory = Directory::of(&self.core.tables, &self.core.index);
-        alert(&directory, &mut self.core.parts, c);
+        alert(&self.core.config, &mut self.core.parts, c);
     }
 
     #[tactic(auto, using(crate::proofs::Channelling::only_one))]
     pub(crate) fn write_sampling_message(&mut self, q: Guest, args: Args) -> Outcome
-        ensures is { gives (world_of B.areas self.new) (reply_of result) ≡ performed write_sampling_message q args (world_of B.areas self.old) }
+        ensures is { Does B.areas write_sampling_message q args self.old result self.new }
         ensures shaped { Shaped Done result }
     {
         let channel = self.source(q, ChannelKind::Sampling, &args)?;
@@ -75,11 +71,11 @@ impl<B: Board> System<B> {
     }
 
     pub(crate) fn send_queuing_message(&mut self, q: Guest, args: Args) -> Outcome
-        ensures is { gives (world_of B.areas self.new) (reply_of result) ≡ performed send_queuing_message q args (world_of B.areas self.old) }
+        ensures is { Does B.areas send_queuing_message q args self.old result self.new }
         ensures shaped { Shaped Done result }
     {
         let channel = self.source(q, ChannelKind::Queuing, &args)?;
-        let depth = self.core.tables.channels.rows[channel.index()].depth;
+        let depth = self.core.config.tables.channels.rows[channel.index()].depth;
         if self.core.channels.count(channel) >= depth as usize {
             return Err(Refusal::NotAvailable);
         }
@@ -88,7 +84,7 @@ impl<B: Board> System<B> {
     }
 
     pub(crate) fn read_sampling_message(&mut self, q: Guest, args: Args) -> Outcome
-        ensures is { gives (world_of B.areas self.new) (reply_of result) ≡ performed read_sampling_message q args (world_of B.areas self.old) }
+        ensures is { Does B.areas read_sampling_message q args self.old result self.new }
         ensures shaped { Shaped (Received 0 0 0) result }
     {
         let channel = self.destination(q, ChannelKind::Sampling, &args)?;
@@ -106,7 +102,7 @@ impl<B: Board> System<B> {
     }
 
     pub(crate) fn receive_queuing_message(&mut self, q: Guest, args: Args) -> Outcome
-        ensures is { gives (world_of B.areas self.new) (reply_of result) ≡ performed receive_queuing_message q args (world_of B.areas self.old) }
+        ensures is { Does B.areas receive_queuing_message q args self.old result self.new }
         ensures shaped { Shaped (Received 0 0 0) result }
     {
         let channel = self.destination(q, ChannelKind::Queuing, &args)?;
@@ -129,13 +125,13 @@ impl<B: Board> System<B> {
     }
 
     pub(crate) fn get_queuing_status(&mut self, q: Guest, args: Args) -> Outcome
-        ensures is { gives (world_of B.areas self.new) (reply_of result) ≡ performed get_queuing_status q args (world_of B.areas self.old) }
+        ensures is { Does B.areas get_queuing_status q args self.old result self.new }
         ensures shaped { Shaped (Waiting 0) result }
     {
         if !self.is_usable(q, ChannelKind::Queuing, args[0]) {
             return Err(Refusal::InvalidParam);
         }
-        let channel = Below::new(self.core.tables.ports.rows[args[0] as usize].channel);
+        let channel = Below::new(self.core.config.tables.ports.rows[args[0] as usize].channel);
         Ok(Answer::Waiting(self.core.channels.count(channel) as u8))
     }
 }

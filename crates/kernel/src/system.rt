@@ -1,57 +1,61 @@
-// What each event does.
-ghost use Rattle.std.specs.Prelude.{◌≡◌, ℕ, ◌-◌, ◌<◌, ◌≤◌, true, IfOk, IfSome, if◌then◌else◌, Some, None};
-ghost use Rattle.board.specs.Areas.{loaded};
-ghost use Rattle.vector.specs.Reading.{tables as tables_of};
-ghost use Rattle.machine.specs.Answers.{reply_of};
-ghost use Rattle.machine.specs.declared.answer.Answer.TheVariants.{Done, Byte};
-ghost use Rattle.machine.specs.Shapes.{Shaped, ShapedOrOutside, CallShaped, call_shape, Suits};
-ghost use Rattle.machine.specs.Laws.{Steady};
-ghost use Rattle.machine.specs.Partitions.{bit};
-ghost use Rattle.machine.specs.Questions.{exists};
-ghost use Rattle.machine.specs.Circle.{Circle, circle_of};
-ghost use Rattle.machine.specs.Calls.{call_of, called};
-ghost use Rattle.machine.specs.Calls.{perform as perform_of};
-ghost use Rattle.machine.specs.State.{area};
-ghost use Rattle.machine.specs.Step.{running, later, load, store, tick};
-ghost use Rattle.kernel.specs.Promises.{Apart, Lasting, Planned, Unmoved};
-ghost use Rattle.kernel.specs.Targets.{on_processor};
-ghost use Rattle.kernel.specs.World.{core_of, world_of, with_core, gives, settled, performed, stepped, booted};
+// The system: a board, and the core whose clock stands in the frame of a plan and whose turn is right there; and what each event
+// does to it.
+ghost use Rattle.clock.specs.Timely.{Timely};
+ghost use Rattle.config.specs.Turns.{Current};
 
-use crate::areas::is_fitting;
-use crate::below::Guest;
 use crate::channels::Channels;
 use crate::inner::Core;
 use crate::log::Log;
-use crate::schedule::all_slotless;
-use crate::turn::Turn;
-use crate::whole::System;
 use board::Board;
 use clock::pass;
-use lookup::{Directory, Index};
+use config::{Config, Guest};
 use machine::answer::{Answer, Outcome, Refusal};
 use machine::clock::{Clock, FARTHEST, Time};
 use machine::event::{Args, Event, Hypercall};
 use machine::partition::Partition;
+use tables::ChannelKind;
 use vector::checked::Checked;
-use vector::tables::ChannelKind;
+
+#[derive(Drop)]
+pub struct System<B> {
+    pub(crate) board: B,
+    pub(crate) core: Core,
+    ghost timely: { Timely core.config.tables.plans core.clock },
+    ghost turned: { Current core.config.tables.plans core.clock core.turn },
+}
 
 impl<B: Board> System<B> {
+    // The definitions that name the system itself: at the top of the file the struct would import them, and they it.
+    ghost use Rattle.std.specs.Prelude.{◌≡◌, ◌-◌, ◌<◌, ◌≤◌, IfSome};
+    ghost use Rattle.board.specs.Areas.{loaded};
+    ghost use Rattle.tables.specs.Laws.{Kept};
+    ghost use Rattle.vector.specs.Reading.{tables as tables_of};
+    ghost use Rattle.machine.specs.Answers.{reply_of};
+    ghost use Rattle.machine.specs.declared.answer.Answer.TheVariants.{Done, Byte};
+    ghost use Rattle.machine.specs.Shapes.{Shaped, ShapedOrOutside, CallShaped, call_shape, Suits};
+    ghost use Rattle.machine.specs.Laws.{Steady};
+    ghost use Rattle.machine.specs.Partitions.{bit};
+    ghost use Rattle.machine.specs.Circle.{Circle};
+    ghost use Rattle.machine.specs.Calls.{call_of, called};
+    ghost use Rattle.machine.specs.Calls.{perform as perform_of};
+    ghost use Rattle.config.specs.Circles.{circle_mask};
+    ghost use Rattle.kernel.specs.Events.{Does, Loads, Passes, Stores, Ticks};
+    ghost use Rattle.kernel.specs.Promises.{Apart, Lasting, Planned, Unmoved};
+    ghost use Rattle.kernel.specs.World.{world_of, gives, stepped, booted};
+
     /// Boots a checked vector on a board; on one that does not fit the system is halted.
     pub fn boot(vector: Checked, board: B) -> System<B>
         ensures is { world_of B.areas result ≡ booted (tables_of vector.entry.bytes.now) (B.areas board) }
+        ensures kept { Kept (tables_of vector.entry.bytes.now) }
         ensures steady { Steady (tables_of vector.entry.bytes.now) (world_of B.areas result).state.core }
     {
-        let tables = vector.shown();
-        let halted = !is_fitting(tables, &board);
-        let index = Index::of(tables);
-        let slotless = all_slotless(&tables.plans);
-        let turn = Turn::at(&tables.plans.rows[0], 0, 0);
+        let config = Config::new(vector.tables());
+        let halted = !config.fits(&board);
+        let turn = config.turn(0, 0, 0);
         System {
             board,
             core: Core {
-                tables: vector.tables(),
-                index,
-                slotless,
+                config,
                 clock: Clock {
                     time: 0,
                     plan: 0,
@@ -67,24 +71,8 @@ impl<B: Board> System<B> {
         }
     }
 
-    /// The partition of this number, if it is on the processor: it is there and READY, and its slot runs.
-    fn running(&self, q: u8) -> Result<Guest, Refusal>
-        ensures is { result ≡ on_processor self.now.core.tables (core_of self.now.core) q }
-        ensures runs { IfOk result (λ g. (g ≡ q) × (running self.now.core.tables (core_of self.now.core) q ≡ true)) }
-    {
-        if usize::from(q) >= self.core.tables.partitions.count {
-            return Err(Refusal::NotOnProcessor);
-        }
-        let guest = Guest::new(q);
-        if self.core.turn.holder == Some(q) && self.core.parts[guest.index()].is_ready() {
-            Ok(guest)
-        } else {
-            Err(Refusal::NotOnProcessor)
-        }
-    }
-
     fn load(&mut self, q: Guest, offset: u32) -> Outcome
-        ensures is { gives (world_of B.areas self.new) (reply_of result) ≡ settled q (load self.old.core.tables (core_of self.old.core) (area (B.areas self.old.board) q) q offset) (world_of B.areas self.old) }
+        ensures is { Loads B.areas q offset self.old result self.new }
         ensures shaped { ShapedOrOutside (Byte 0) result }
     {
         let Some(byte) = self.board.load(q.index(), offset as usize) else {
@@ -95,7 +83,7 @@ impl<B: Board> System<B> {
     }
 
     fn store(&mut self, q: Guest, offset: u32, byte: u8) -> Outcome
-        ensures is { gives (world_of B.areas self.new) (reply_of result) ≡ settled q (store self.old.core.tables (core_of self.old.core) (area (B.areas self.old.board) q) q offset byte) (world_of B.areas self.old) }
+        ensures is { Stores B.areas q offset byte self.old result self.new }
         ensures shaped { ShapedOrOutside Done result }
     {
         let Some(()) = self.board.store(q.index(), offset as usize, byte) else {
@@ -109,7 +97,7 @@ impl<B: Board> System<B> {
     fn stay(&mut self, t: Time)
         requires ahead { self.old.core.clock.time ≤ t }
         requires within { t - self.old.core.clock.start < self.old.core.turn.until }
-        ensures { world_of B.areas self.new ≡ with_core (later self.old.core.tables (t - self.old.core.clock.time) (core_of self.old.core)) (world_of B.areas self.old) }
+        ensures { Passes B.areas t self.old self.new }
     {
         self.core.clock.time = t;
     }
@@ -117,28 +105,31 @@ impl<B: Board> System<B> {
     /// Goes on past the end of the turn to the time t, and finds the turn there.
     fn pass(&mut self, t: Time)
         requires ahead { self.old.core.clock.time ≤ t }
-        ensures { world_of B.areas self.new ≡ with_core (later self.old.core.tables (t - self.old.core.clock.time) (core_of self.old.core)) (world_of B.areas self.old) }
+        ensures { Passes B.areas t self.old self.new }
     {
         let begun = self.core.clock.start;
+        let config = &self.core.config;
         pass(
-            &self.core.tables.plans,
+            &config.tables.plans,
             &mut self.core.clock,
             &mut self.core.parts,
             t,
         );
-        let clock = &self.core.clock;
-        let plan = &self.core.tables.plans.rows[usize::from(clock.plan)];
+        let clock = self.core.clock;
         let first = if clock.start == begun {
             self.core.turn.slot
         } else {
             0
         };
-        self.core.turn = Turn::at(plan, first, clock.time - clock.start);
+        self.core.turn = self
+            .core
+            .config
+            .turn(clock.plan, first, clock.time - clock.start);
     }
 
     /// Goes on to the time t, which is not before now and not too far ahead.
     fn tick(&mut self, t: Time) -> Outcome
-        ensures is { gives (world_of B.areas self.new) (reply_of result) ≡ settled 0 (tick self.old.core.tables (core_of self.old.core) t) (world_of B.areas self.old) }
+        ensures is { Ticks B.areas t self.old result self.new }
         ensures shaped { Shaped Done result }
     {
         let time = self.core.clock.time;
@@ -156,7 +147,7 @@ impl<B: Board> System<B> {
     // Each call takes the caller and its five words, as the machine's calls do: nothing is known of the pair that a
     // struct would keep. The match stays: a table of functions could not be handed out, and would hide the names.
     fn perform(&mut self, call: Hypercall, q: Guest, args: Args) -> Outcome
-        ensures is { gives (world_of B.areas self.new) (reply_of result) ≡ performed (perform_of call) q args (world_of B.areas self.old) }
+        ensures is { Does B.areas (perform_of call) q args self.old result self.new }
         ensures shaped { Shaped (call_shape call) result }
     {
         match call {
@@ -189,12 +180,13 @@ impl<B: Board> System<B> {
     }
 
     fn call(&mut self, q: Guest, number: u8, args: Args) -> Outcome
-        ensures is { gives (world_of B.areas self.new) (reply_of result) ≡ performed (called number) q args (world_of B.areas self.old) }
+        ensures is { Does B.areas (called number) q args self.old result self.new }
         ensures shaped { CallShaped (call_of number) result }
     {
         self.perform(Hypercall::try_from(number)?, q, args)
     }
 
+    // What is promised on top of the equation follows from it, once: `handle` leaves in a dozen places.
     /// Takes one event. A refusal moves nothing, plans switch only where a frame ends or the system is reset, and an event of one
     /// partition leaves every other area as it was, save a system partition's cold reset.
     pub fn event(&mut self, e: Event) -> Outcome
@@ -203,17 +195,17 @@ impl<B: Board> System<B> {
         ensures unmoved { Unmoved (reply_of result) (world_of B.areas self.old) (world_of B.areas self.new) }
         ensures planned { Planned e (world_of B.areas self.old) (world_of B.areas self.new) }
         ensures lasting { Lasting (world_of B.areas self.old) (world_of B.areas self.new) }
-        ensures apart { Apart self.old.core.tables e (B.areas self.old.board) (B.areas self.new.board) }
+        ensures apart { Apart self.old.core.config.tables e (B.areas self.old.board) (B.areas self.new.board) }
     {
         self.handle(e)
     }
 
     /// The circle of a partition as a mask, or none where the vector has no such partition.
     pub fn circle(&self, partition: u8) -> Option<u8>
-        ensures is { result ≡ (if exists self.now.core.tables partition then Some (circle_of self.now.core.tables partition) else None) }
-        ensures least { IfSome result (λ m. Circle self.now.core.tables partition (bit m)) }
+        ensures is { result ≡ circle_mask self.now.core.config.tables partition }
+        ensures least { IfSome result (λ m. Circle self.now.core.config.tables partition (bit m)) }
     {
-        Directory::of(&self.core.tables, &self.core.index).circle(partition)
+        self.core.config.circle(partition)
     }
 
     /// The byte at a place of a partition's area, for who looks at the board when the events are over; none outside the area.

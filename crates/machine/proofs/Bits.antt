@@ -5,7 +5,7 @@ use Rattle.std.specs.Int.Bits.{bit_and, bit_or}
 use Rattle.std.proofs.lemmas.Bool.{not-true, not_from_false, eqb-false, eq-eqb, ne_eqb, cases_eq}
 use Rattle.std.proofs.lemmas.Nat.{pow_pos}
 use Rattle.std.proofs.lemmas.Nat.Bits.{bit_at_lowest, bit_at-suc, bit_at-zero, bit_at_and, bit_at_or, bit_at-pow_same, bit_at-pow_other, and_pow}
-use Rattle.vector.specs.Fields.{has_bit}
+use Rattle.tables.specs.Bits.{has_bit}
 use Rattle.machine.specs.Partitions.{bit}
 
 -- the bit of a number, as std has it: 0 or 1

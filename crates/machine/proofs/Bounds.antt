@@ -1,6 +1,7 @@
 -- What no event leaves: plans that are there, calm partitions, a log of at most 32 entries, channels within their room.
-use Rattle.std.proofs.Common.{ℕ, List, [], ◌∷◌}
-use Rattle.vector.specs.declared.tables.Tables.{Tables}
+use Rattle.std.proofs.Common.{List, [], ◌∷◌}
+use Rattle.board.specs.Areas.{Area}
+use Rattle.tables.specs.declared.Tables.{Tables}
 use Rattle.machine.specs.declared.event.Event.{Event}
 use Rattle.machine.specs.State.{Core, State}
 use Rattle.machine.specs.Step.{step, boot}
@@ -41,7 +42,7 @@ pub lasting : (k : Tables) (s : State) (e : Event) → Lasting k s e
 lasting k s e r = sane-steady k _ ((tamed k s e).sane (steady-sane k s.core r))
 
 -- the boot has it, and so has every history from there on
-pub booted : (k : Tables) (ms : List (List ℕ)) → Steady k (boot k ms).core
+pub booted : (k : Tables) (ms : List Area) → Steady k (boot k ms).core
 booted k ms = sane-steady k _ (boot_sane k ms)
 
 after-steady : (k : Tables) (s : State) → Steady k s.core → (h : List Event) → Steady k (after k s h).core
@@ -49,5 +50,5 @@ unfolding after
 after-steady k s r [] = r
 after-steady k s r (e ∷ es) = after-steady k (step k s e).state (lasting k s e r) es
 
-pub steady : (k : Tables) (ms : List (List ℕ)) (h : List Event) → Steady k (after k (boot k ms) h).core
+pub steady : (k : Tables) (ms : List Area) (h : List Event) → Steady k (after k (boot k ms) h).core
 steady k ms h = after-steady k (boot k ms) (booted k ms) h

@@ -1,13 +1,13 @@
 -- What a partition's record keeps, whatever happens to it.
-use Rattle.std.proofs.Common.{◌≡◌, ℕ, zero, suc, ◌+◌, ◌^◌, ◌<◌, ◌≤◌, Bool, true, false, not, eqb, List, [], ◌∷◌, get_or, set, replicate, slice_index_or, Some, None, Option, sym, refl, ap, ◌∙◌, subst, ⊎_elim, arith}
+use Rattle.std.proofs.Common.{◌≡◌, ℕ, zero, suc, ◌+◌, ◌^◌, ◌<◌, ◌≤◌, Bool, true, false, not, eqb, List, [], ◌∷◌, get_or, set, replicate, slice_index_or, Some, None, Option, sym, refl, ap, ◌∙◌, subst, ⊎_elim, arith, cond}
 use Rattle.std.proofs.lemmas.Bool.{both_ways, not-false, lt-ltb, cond_both}
 use lib.Bits.{and_zero_l}
-use Rattle.vector.specs.declared.tables.Tables.{Tables}
-use Rattle.vector.specs.Laws.{Lawful}
+use Rattle.tables.specs.declared.Tables.{Tables}
+use Rattle.tables.specs.Laws.{Lawful}
 use Rattle.machine.specs.declared.partition.Status.{Status}
 use Rattle.machine.specs.declared.partition.Status.TheVariants.{Halted, Ready, Idle, Suspended}
 use Rattle.machine.specs.declared.partition.Partition.{Partition}
-use Rattle.machine.specs.Partitions.{nobody, fresh, halted, with_status, suspended, resumed, opened, hidden, roused, woken, idled, noticed, signalled_at, signalled, bit, is_open}
+use Rattle.machine.specs.Partitions.{nobody, fresh, halted, with_status, suspended, resumed, opened, hidden, roused, woken, idled, noticed, signalled_at, signalled, bit, is_open, slot_started}
 use Rattle.machine.specs.Questions.{exists, row, mask_of, link, owner, port}
 use Rattle.machine.specs.Laws.{PortOf}
 use Rattle.machine.proofs.Bits.{or_bit, has}
@@ -133,8 +133,11 @@ module _ (k : Tables) (q : ℕ) where
         absent = λ w e l. ap (λ (r : Partition). with_status (roused r.status) r) (h.absent w e l);
       }
 
-  pub soothes_woken : (b : Bool) → Soothes k q (woken b)
+  soothes_woken : (b : Bool) → Soothes k q (woken b)
   soothes_woken b = record { calm = λ p h. cond_both b _ _ (Calm k q) (λ _. calm-roused h) (λ _. h) }
+
+  pub soothes_started : (b : Bool) → Soothes k q (λ p. cond b (slot_started p) p)
+  soothes_started b = record { calm = λ p h. cond_both b _ _ (Calm k q) (λ _. (soothes_woken true).calm p h) (λ _. h) }
 
   calm-noticed : There k q → (p : Partition) → (p.status ≡ Halted → ⊥) → (own : (i : ℕ) → is_open i p ≡ true → PortOf k q i) → Calm k q (noticed p)
   calm-noticed t p n own =

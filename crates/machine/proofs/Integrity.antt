@@ -2,12 +2,13 @@
 use Rattle.std.proofs.Common.{◌≡◌, ℕ, true, false, List, [], ◌∷◌, Some, None, Option, sym, refl, ap, ◌∙◌}
 use Rattle.std.proofs.lemmas.List.{get_or-set_other}
 use Rattle.std.proofs.lemmas.Bool.{both_ways, or_from, or_parts, eqb-true, eqb-false, ne_eqb}
-use Rattle.vector.specs.Names.{any}
-use Rattle.vector.specs.declared.tables.Tables.{Tables}
+use Rattle.board.specs.Areas.{Area, area}
+use Rattle.tables.specs.Names.{any}
+use Rattle.tables.specs.declared.Tables.{Tables}
 use Rattle.machine.specs.declared.event.Event.{Event}
 use Rattle.machine.specs.declared.event.Event.TheVariants.{Tick, Call, Load, Store, Fault, Line, SystemFault}
 use Rattle.machine.specs.Questions.{names}
-use Rattle.machine.specs.State.{State, Effect, keeps, writes, clears, clears_all, area, applied}
+use Rattle.machine.specs.State.{State, Effect, keeps, writes, clears, clears_all, applied}
 use Rattle.machine.specs.Step.{author, step}
 use Rattle.machine.specs.Runs.{after}
 use Rattle.machine.specs.Isolation.{whose, is_of}
@@ -18,7 +19,7 @@ not_named : (o : Option ℕ) (t r : ℕ) → o ≡ Some t → names o r ≡ fals
 not_named o t r e d i = eqb-false t r (ap (λ p. names p r) (sym e) ∙ d) (sym i)
 
 -- an effect on o's area leaves the others
-applied-other : (f : Effect) (p : ℕ) (o : Option ℕ) (r : ℕ) (ms : List (List ℕ)) → Mine p o f → names o r ≡ false →
+applied-other : (f : Effect) (p : ℕ) (o : Option ℕ) (r : ℕ) (ms : List Area) → Mine p o f → names o r ≡ false →
     area (applied f p ms) r ≡ area ms r
 applied-other keeps p o r ms h d = refl
 applied-other (writes a) p o r ms h d = get_or-set_other ms p r a [] (not_named o p r h d)

@@ -3,15 +3,15 @@ use Rattle.std.proofs.Common.{◌≡◌, ℕ, zero, suc, ◌<◌, Bool, true, fa
 use Rattle.std.specs.Str.{bytes_eq}
 use Rattle.std.proofs.lemmas.Slice.Eq.{bytes_eq-Decides}
 use Rattle.std.proofs.lemmas.Bool.{both_ways, and_parts, and_from, ltb-true, lt-ltb, eqb-true, eq-eqb, cond-true, cond-false, cond_both, cases_eq, false_from_ne_true}
-use Rattle.vector.specs.Names.{same_name}
-use Rattle.vector.specs.declared.tables.ChannelKind.{ChannelKind}
-use Rattle.vector.specs.declared.tables.ChannelKind.TheVariants.{Sampling, Queuing}
-use Rattle.vector.specs.declared.tables.Name.{Name}
-use Rattle.vector.specs.declared.tables.Tables.{Tables}
+use Rattle.tables.specs.Names.{same_name}
+use Rattle.tables.specs.declared.channel.ChannelKind.{ChannelKind}
+use Rattle.tables.specs.declared.channel.ChannelKind.TheVariants.{Sampling, Queuing}
+use Rattle.tables.specs.declared.name.Name.{Name}
+use Rattle.tables.specs.declared.Tables.{Tables}
 use Rattle.machine.specs.Laws.{PortOf}
 use Rattle.machine.specs.Questions.{port, channel, same_kind, owns, named}
 use Rattle.machine.specs.Searches.{IsNamed, Found}
-use Rattle.vector.proofs.FitPartitions.{same-name}
+use Rattle.tables.proofs.Names.{same-name}
 
 pub none-not : (i : ℕ) → ◌≡◌ {A = Option ℕ} None (Some i) → ⊥
 none-not i e = cc

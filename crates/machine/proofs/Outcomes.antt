@@ -1,14 +1,15 @@
 -- What is true of the outcome of every event: one walk over the calls, the faults and the rest.
 use Rattle.std.proofs.Common.{◌≡◌, ℕ, ◌-◌, Bool, true, false, ◌&&◌, ◌||◌, eqb, ltb, List, get_or, pos, negsuc, Some, None, Option, Ok, Err, sym, refl, subst, inl, inr, arith}
 use Rattle.std.proofs.lemmas.Bool.{both_ways, and_right, or_cases, or_left, eqb-true, cond-true, cond_both}
-use Rattle.vector.specs.declared.tables.Tables.{Tables}
-use Rattle.vector.specs.declared.tables.Response.{Response}
-use Rattle.vector.specs.declared.record.Scope.{Scope}
-use Rattle.vector.specs.declared.record.Scope.TheVariants.{Partition, System}
-use Rattle.vector.specs.declared.tables.Action.{Action}
-use Rattle.vector.specs.declared.tables.Action.TheVariants.{Ignore, Signal, Suspend, Halt, WarmReset, ColdReset}
-use Rattle.vector.specs.declared.tables.ChannelKind.{ChannelKind}
-use Rattle.vector.specs.declared.tables.ChannelKind.TheVariants.{Sampling, Queuing}
+use Rattle.board.specs.Areas.{area}
+use Rattle.tables.specs.declared.Tables.{Tables}
+use Rattle.tables.specs.declared.response.Response.{Response}
+use Rattle.tables.specs.declared.response.Scope.{Scope}
+use Rattle.tables.specs.declared.response.Scope.TheVariants.{Partition, System}
+use Rattle.tables.specs.declared.response.Action.{Action}
+use Rattle.tables.specs.declared.response.Action.TheVariants.{Ignore, Signal, Suspend, Halt, WarmReset, ColdReset}
+use Rattle.tables.specs.declared.channel.ChannelKind.{ChannelKind}
+use Rattle.tables.specs.declared.channel.ChannelKind.TheVariants.{Sampling, Queuing}
 use Rattle.machine.specs.declared.log.Entry.{Entry}
 use Rattle.machine.specs.declared.partition.Status.TheVariants.{Ready}
 use Rattle.machine.specs.declared.answer.Refusal.{Refusal}
@@ -20,7 +21,7 @@ use Rattle.machine.specs.declared.event.Hypercall.TheVariants.{GetTime}
 use Rattle.machine.specs.Answers.{reply}
 use Rattle.machine.specs.Letters.{Letter}
 use Rattle.machine.specs.Questions.{exists, is_system, manages, response, owner}
-use Rattle.machine.specs.State.{Core, State, Effect, keeps, writes, clears, clears_all, Out, refused, guard, area}
+use Rattle.machine.specs.State.{Core, State, Effect, keeps, writes, clears, clears_all, Out, refused, guard}
 use Rattle.machine.specs.Time.{timed}
 use Rattle.machine.specs.Faults.{logged, carried, faulted, is_systems, system_response, system_carried, system_faulted}
 use Rattle.machine.specs.Management.{arg}
@@ -28,7 +29,7 @@ use Rattle.machine.specs.Partitions.{nobody, masked, unmasked, acknowledged}
 use Rattle.machine.specs.Ports.{nameable, sought, create_at, sampled, taken}
 use Rattle.machine.specs.Interrupts.{line_of}
 use Rattle.machine.specs.Monitor.{read}
-use Rattle.machine.specs.Calls.{perform, calls, attempted, called}
+use Rattle.machine.specs.Calls.{perform, calls, attempted, called, call_count}
 use Rattle.machine.specs.Step.{running, gate, author, outcome}
 use Rattle.machine.specs.Laws.{PortOf, is_reset, resets, replans, Planned}
 use Rattle.machine.specs.Isolation.{existing, whose}
@@ -194,7 +195,7 @@ all_tame =
 called_tame : (k : Tables) (x : Core) (n : ℕ) (a : List ℕ) (q : ℕ) (g : List ℕ) → exists k q ≡ true → (get_or x.parts q nobody).status ≡ Ready →
     Tame k q (Some q) (is_system k q && is_reset n g) (is_system k q && is_cold n g) x (called n k x a q g)
 called_tame k x n a q g t r =
-    cond_both (ltb n 25) (Ok (get_or calls n GetTime)) (Err UnknownHypercall)
+    cond_both (ltb n call_count) (Ok (get_or calls n GetTime)) (Err UnknownHypercall)
     (λ c. Tame k q (Some q) (is_system k q && is_reset n g) (is_system k q && is_cold n g) x (attempted c k x a q g))
     (λ _. numbered Called (λ n k x a q g t r. search tame) all_tame n k x a q g t r)
     (λ _. tame_refused k q (Some q) _ _ x UnknownHypercall)

@@ -1,10 +1,10 @@
 -- The word of a log entry gives back what went into it.
 use Rattle.std.proofs.Common.{◌≡◌, ℕ, ◌<◌, [], ◌∷◌, get_or, sym, refl, ap, ◌∙◌, arith}
-use Rattle.vector.specs.Encoding.{scope_number, action_number}
-use Rattle.vector.specs.declared.record.Scope.{Scope}
-use Rattle.vector.specs.declared.record.Scope.TheVariants.{Partition, System}
-use Rattle.vector.specs.declared.tables.Action.{Action}
-use Rattle.vector.specs.declared.tables.Action.TheVariants.{Ignore, Signal, Suspend, Halt, WarmReset, ColdReset}
+use Rattle.tables.specs.Numbers.{scope_number, action_number}
+use Rattle.tables.specs.declared.response.Scope.{Scope}
+use Rattle.tables.specs.declared.response.Scope.TheVariants.{Partition, System}
+use Rattle.tables.specs.declared.response.Action.{Action}
+use Rattle.tables.specs.declared.response.Action.TheVariants.{Ignore, Signal, Suspend, Halt, WarmReset, ColdReset}
 use Rattle.machine.specs.declared.log.Entry.{Entry}
 use Rattle.machine.specs.Answers.{packed}
 use Rattle.machine.specs.Packing.{Below, Noted, Unpacks, Telling}

@@ -1,17 +1,17 @@
 -- What the passing of time leaves: calm partitions stay calm, the time does not go back, and a plan stays until its frame ends.
 use Rattle.std.proofs.Common.{◌≡◌, ℕ, zero, suc, ◌<◌, ◌≤◌, false, refl, ap, ◌∙◌, arith}
 use Rattle.std.proofs.lemmas.Bool.{or_parts, cond-false, cond_both}
-use Rattle.vector.specs.declared.tables.Tables.{Tables}
-use Rattle.vector.specs.Tables.{Plans}
+use Rattle.tables.specs.declared.Tables.{Tables}
+use Rattle.tables.specs.Tables.{Plans}
 use Rattle.machine.specs.declared.clock.Clock.{Clock}
 use Rattle.machine.specs.Time.{Timed, rolled, wake_at, micro, micros}
 use Rattle.machine.specs.Laws.{frame_ends, ends_within}
-use Rattle.machine.proofs.Calm.{AllCalm, calm-each, soothes_woken}
+use Rattle.machine.proofs.Calm.{AllCalm, calm-each, soothes_started}
 
 module _ (k : Tables) (ps : Plans) where
   micro-calm : (x : Timed) → AllCalm k x.parts → AllCalm k (micro ps x).parts
   unfolding micro wake_at
-  micro-calm x r = calm-each k _ (λ j i. soothes_woken k j _) r
+  micro-calm x r = calm-each k _ (λ j i. soothes_started k j _) r
 
   pub micros-calm : (n : ℕ) (x : Timed) → AllCalm k x.parts → AllCalm k (micros ps n x).parts
   unfolding micros

@@ -1,10 +1,11 @@
 -- The calls on ports and channels.
 use Rattle.std.proofs.Common.{◌≡◌, ℕ, zero, suc, ◌<◌, ◌≤◌, Bool, true, false, cond, ◌&&◌, eqb, ltb, List, [], ◌∷◌, ◌++◌, length, pos, Some, None, Option, sym, refl, ap, ◌∙◌, subst, ap₂, inl, inr, arith}
 use Rattle.std.proofs.lemmas.Bool.{both_ways, and_parts, not-true, eqb-true, ltb-true, cases_Bool}
+use Rattle.board.specs.Areas.{part, ranged}
 use Rattle.queue.specs.Ring.{first, rest}
-use Rattle.vector.specs.declared.tables.Tables.{Tables}
-use Rattle.vector.specs.declared.tables.ChannelKind.{ChannelKind}
-use Rattle.vector.specs.declared.tables.ChannelKind.TheVariants.{Sampling, Queuing}
+use Rattle.tables.specs.declared.Tables.{Tables}
+use Rattle.tables.specs.declared.channel.ChannelKind.{ChannelKind}
+use Rattle.tables.specs.declared.channel.ChannelKind.TheVariants.{Sampling, Queuing}
 use Rattle.machine.specs.declared.clock.Clock.{Clock}
 use Rattle.machine.specs.declared.partition.Partition.{Partition}
 use Rattle.machine.specs.declared.answer.Refusal.TheVariants.{InvalidParam}
@@ -14,7 +15,7 @@ use Rattle.machine.specs.Partitions.{nobody, is_open, signalled}
 use Rattle.machine.specs.Questions.{channel_of, channel, same_kind, owns, hears}
 use Rattle.machine.specs.State.{Core, Out, keeps, guard, refused}
 use Rattle.machine.specs.Management.{arg}
-use Rattle.machine.specs.Ports.{part, message_bit, sought, create_at, create, usable, queue, alert, alerted, sendable, letter, posted, write_sampling_message, send_queuing_message, receiving, ranged, holds, sampled, read_sampling_message, taken, receive_queuing_message, get_queuing_status}
+use Rattle.machine.specs.Ports.{message_bit, sought, create_at, create, usable, queue, alert, alerted, sendable, letter, posted, write_sampling_message, send_queuing_message, receiving, holds, sampled, read_sampling_message, taken, receive_queuing_message, get_queuing_status}
 use Rattle.machine.specs.Circle.{port_owner, is_source_port}
 use Rattle.machine.proofs.Agree.{Agree, agree_refl, agree_trans, agree_put}
 use Rattle.machine.proofs.Alike.{Alike, Matched, Quiet, alike_refl, alike_parts, alike_chan, chan_out, parts_out, matched_guard, matched_same, matched_told, quiet_guard, quiet_core, agree_modify, within, without}

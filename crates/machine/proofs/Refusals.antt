@@ -1,6 +1,6 @@
 -- A refusal moves nothing.
 use Rattle.std.proofs.Common.{ap₂}
-use Rattle.vector.specs.declared.tables.Tables.{Tables}
+use Rattle.tables.specs.declared.Tables.{Tables}
 use Rattle.machine.specs.declared.event.Event.{Event}
 use Rattle.machine.specs.State.{State, applied}
 use Rattle.machine.specs.Step.{author}

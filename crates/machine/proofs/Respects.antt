@@ -1,6 +1,6 @@
 -- What isolation asks of a call, by a member and by an outsider.
 use Rattle.std.proofs.Common.{◌≡◌, ℕ, Bool, true, false, List}
-use Rattle.vector.specs.declared.tables.Tables.{Tables}
+use Rattle.tables.specs.declared.Tables.{Tables}
 use Rattle.machine.specs.declared.partition.Partition.{Partition}
 use Rattle.machine.specs.Questions.{exists}
 use Rattle.machine.specs.State.{Core, done, with_parts, modify}

@@ -2,12 +2,12 @@
 use Rattle.std.proofs.Common.{◌≡◌, ℕ, Bool, true, false, cond, [], replicate, Some, None, Option, refl, ap}
 use Rattle.std.proofs.lemmas.Bool.{cond_both}
 use Rattle.queue.specs.Ring.{first}
-use Rattle.vector.specs.declared.tables.Tables.{Tables}
-use Rattle.vector.specs.declared.tables.Response.{Response}
-use Rattle.vector.specs.declared.record.Scope.{Scope}
-use Rattle.vector.specs.declared.record.Scope.TheVariants.{Partition, System}
-use Rattle.vector.specs.declared.tables.Action.{Action}
-use Rattle.vector.specs.declared.tables.Action.TheVariants.{Ignore, Signal, Suspend, Halt, WarmReset, ColdReset}
+use Rattle.tables.specs.declared.Tables.{Tables}
+use Rattle.tables.specs.declared.response.Response.{Response}
+use Rattle.tables.specs.declared.response.Scope.{Scope}
+use Rattle.tables.specs.declared.response.Scope.TheVariants.{Partition, System}
+use Rattle.tables.specs.declared.response.Action.{Action}
+use Rattle.tables.specs.declared.response.Action.TheVariants.{Ignore, Signal, Suspend, Halt, WarmReset, ColdReset}
 use Rattle.machine.specs.declared.clock.Clock.{Clock}
 use Rattle.machine.specs.declared.log.Entry.{Entry}
 use Rattle.machine.specs.Partitions.{fresh, nobody}

@@ -2,7 +2,7 @@
 use Rattle.std.proofs.Common.{◌≡◌, ℕ, zero, suc, ◌+◌, ◌^◌, ◌<◌, ◌≤◌, Bool, true, false, cond, not, ◌&&◌, eqb, ltb, ◌⊎◌, sym, refl, ap, ◌∙◌, inl, inr, arith}
 use lib.Bits.{bit_and}
 use Rattle.std.proofs.lemmas.Bool.{both_ways, and_parts, and_from, not-true, not_from_false, ltb-true, lt-ltb, cases_lt}
-use Rattle.vector.specs.declared.tables.Tables.{Tables}
+use Rattle.tables.specs.declared.Tables.{Tables}
 use Rattle.machine.specs.Partitions.{bit}
 use Rattle.machine.specs.Questions.{exists, is_system, link}
 use Rattle.machine.specs.Circle.{port_owner, is_queuing, feeds, Closed, joined, turns, with_system, with_writer, with_reader, with_pair, with_port, with_raiser, with_links, with_round, Fine, Circled}

@@ -1,12 +1,13 @@
 -- A machine whose plans are there, whose partitions are calm, whose log is kept, and whose channels are within their room.
 use Rattle.std.proofs.Common.{◌≡◌, ℕ, suc, ◌+◌, ◌<◌, ◌≤◌, Bool, true, false, ◌&&◌, eqb, ltb, leb, List, [], ◌∷◌, ◌++◌, length, get_or, drop, set, replicate, refl, arith, length-append, length-drop, length-take}
 use Rattle.std.proofs.lemmas.Bool.{both_ways, and_parts, leb-true, ltb-true, cond_both}
+use Rattle.board.specs.Areas.{Area, ranged}
 use Rattle.queue.specs.Ring.{rest}
-use Rattle.vector.specs.declared.tables.Tables.{Tables}
-use Rattle.vector.specs.declared.record.Scope.{Scope}
-use Rattle.vector.specs.declared.tables.Response.{Response}
-use Rattle.vector.specs.declared.tables.ChannelKind.{ChannelKind}
-use Rattle.vector.specs.declared.tables.ChannelKind.TheVariants.{Sampling, Queuing}
+use Rattle.tables.specs.declared.Tables.{Tables}
+use Rattle.tables.specs.declared.response.Scope.{Scope}
+use Rattle.tables.specs.declared.response.Response.{Response}
+use Rattle.tables.specs.declared.channel.ChannelKind.{ChannelKind}
+use Rattle.tables.specs.declared.channel.ChannelKind.TheVariants.{Sampling, Queuing}
 use Rattle.machine.specs.declared.log.Entry.{Entry}
 use Rattle.machine.specs.declared.partition.Status.TheVariants.{Ready}
 use Rattle.machine.specs.declared.partition.Partition.{Partition}
@@ -17,7 +18,7 @@ use Rattle.machine.specs.State.{Core, with_clock, with_parts, with_chan, with_lo
 use Rattle.machine.specs.Time.{timed, clock_of}
 use Rattle.machine.specs.Faults.{logged, restarted}
 use Rattle.machine.specs.Management.{arg}
-use Rattle.machine.specs.Ports.{usable, sendable, ranged, letter, queue, left, posted}
+use Rattle.machine.specs.Ports.{usable, sendable, letter, queue, left, posted}
 use Rattle.machine.specs.Interrupts.{raised}
 use Rattle.machine.specs.Step.{later, boot}
 use Rattle.machine.specs.Laws.{room_of, room, longest, Sized, PlansThere}
@@ -112,7 +113,7 @@ module _ (k : Tables) where
   sane_chan {x} r c ms h =
       record { plans = r.plans; parts = r.parts; log = r.log; chans = λ d. set-each (Holds k) [] x.chans c d ms h (r.chans d) }
 
-  pub boot_sane : (ms : List (List ℕ)) → Sane k (boot k ms).core
+  pub boot_sane : (ms : List Area) → Sane k (boot k ms).core
   boot_sane ms = record { plans = λ l. (omega arith, omega arith); parts = calm-begun k; log = none_kept; chans = empty_holds k }
 
   module _ (x : Core) where

@@ -1,8 +1,8 @@
 -- Who is on the processor: whoever is READY, while its slot runs.
 use Rattle.std.proofs.Common.{◌≡◌, ℕ, ◌-◌, ◌<◌, true, false, Some, None, Option, sym, refl, ap, ◌∙◌, arith}
 use Rattle.std.proofs.lemmas.Bool.{both_ways, and_parts, and_from, lt-ltb, eqb-true, eq-eqb}
-use Rattle.vector.specs.Laws.{Lawful}
-use Rattle.vector.specs.declared.tables.Tables.{Tables}
+use Rattle.tables.specs.Laws.{Lawful}
+use Rattle.tables.specs.declared.Tables.{Tables}
 use Rattle.machine.specs.declared.partition.Status.{Status}
 use Rattle.machine.specs.declared.partition.Status.TheVariants.{Halted, Ready, Idle, Suspended}
 use Rattle.machine.specs.Partitions.{is_ready}

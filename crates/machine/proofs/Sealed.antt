@@ -1,13 +1,16 @@
 -- The channels that a closed set of partitions sees, and what is closed about them.
 use Rattle.std.proofs.Common.{◌≡◌, ℕ, zero, suc, ◌<◌, Bool, true, false, not, ◌&&◌, ◌||◌, eqb, get_or, sym, refl, ap, ◌∙◌, inl, inr, arith}
 use Rattle.std.proofs.lemmas.Bool.{both_ways, and_parts, and_from, or_cases, or_left, or_right, eqb-true, eq-eqb, cases_lt, cases_Bool, not_from_false}
-use Rattle.vector.specs.declared.tables.Tables.{Tables}
-use Rattle.vector.specs.declared.tables.ChannelKind.TheVariants.{Queuing}
-use Rattle.vector.specs.Blank.{channel0}
+use Rattle.tables.specs.declared.Tables.{Tables}
+use Rattle.tables.specs.Fair.{OneSource, OneDestination}
+use Rattle.tables.specs.declared.channel.ChannelKind.TheVariants.{Queuing}
+use Rattle.tables.specs.declared.port.Direction.{Direction}
+use Rattle.tables.specs.declared.port.Direction.TheVariants.{Source, Destination}
+use Rattle.tables.specs.Blank.{channel0}
 use Rattle.machine.specs.Partitions.{bit}
-use Rattle.machine.specs.Questions.{exists, is_system, link, channel_of, same_kind}
+use Rattle.machine.specs.Questions.{exists, is_system, link, channel_of, is_source, same_kind}
 use Rattle.machine.specs.Circle.{port_owner, is_source_port, is_queuing, feeds, Closed}
-use Rattle.machine.specs.Isolation.{Fair}
+use Rattle.machine.proofs.Names.{kinds}
 
 -- a set M of partitions and a set C of channels that nothing outside them reaches
 pub record Sealed (k : Tables) (M C : ℕ → Bool) : Type 0 where
@@ -60,7 +63,15 @@ shows k M c i = eqb (channel_of k i) c && (M (port_owner k i) && (not (is_source
 abbrev pub seen : Tables → (ℕ → Bool) → ℕ → Bool
 seen k M c = some k.ports.count (shows k M c)
 
-module _ (k : Tables) (M : ℕ → Bool) (w : Closed k M) (f : Fair k) where
+source : (d : Direction) → is_source d ≡ true → d ≡ Source
+source Source e = refl
+source Destination e = cc
+
+destination : (d : Direction) → is_source d ≡ false → d ≡ Destination
+destination Source e = cc
+destination Destination e = refl
+
+module _ (k : Tables) (M : ℕ → Bool) (w : Closed k M) (one-source : OneSource k) (one-destination : OneDestination k) where
   shown : (i : ℕ) → i < k.ports.count → M (port_owner k i) ≡ true → (not (is_source_port k i) || is_queuing k i) ≡ true →
       seen k M (channel_of k i) ≡ true
   shown i b m e =
@@ -92,7 +103,7 @@ module _ (k : Tables) (M : ℕ → Bool) (w : Closed k M) (f : Fair k) where
   tells i b s e =
       let j = shower (channel_of k i) e in
       elim (cases_Bool (is_source_port k j.at)) [
-        | inl t ↦ ap (λ n. M (port_owner k n)) (f.0 i j.at b j.below (sym j.same) s t) ∙ j.member
+        | inl t ↦ ap (λ n. M (port_owner k n)) (one-source i j.at (b, j.below, sym j.same) (source _ s) (source _ t)) ∙ j.member
         | inr t ↦ w.writers i j.at b j.below (fed i j.at s t j.same) j.member
       ]
 
@@ -102,7 +113,7 @@ module _ (k : Tables) (M : ℕ → Bool) (w : Closed k M) (f : Fair k) where
       let j = shower (channel_of k i) e in
       elim (cases_Bool (is_source_port k j.at)) [
         | inl t ↦ w.readers j.at i j.below b (fed j.at i t d (sym j.same)) (queues i j.at j.same h) j.member
-        | inr t ↦ ap (λ n. M (port_owner k n)) (f.1 i j.at b j.below (sym j.same) h d t) ∙ j.member
+        | inr t ↦ ap (λ n. M (port_owner k n)) (one-destination i j.at (b, j.below, sym j.same) (kinds _ Queuing h) (destination _ d) (destination _ t)) ∙ j.member
       ]
 
   pub sealed : Sealed k M (seen k M)

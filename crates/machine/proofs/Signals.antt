@@ -1,7 +1,7 @@
 -- The calls on interrupts, and lines.
 use Rattle.std.proofs.Common.{◌≡◌, ℕ, zero, suc, Bool, true, false, cond, eqb, ltb, List, pos, Some, None, Option, refl, ap}
 use Rattle.std.proofs.lemmas.Bool.{both_ways, ltb-true}
-use Rattle.vector.specs.declared.tables.Tables.{Tables}
+use Rattle.tables.specs.declared.Tables.{Tables}
 use Rattle.machine.specs.declared.partition.Partition.{Partition}
 use Rattle.machine.specs.Answers.{reply}
 use Rattle.machine.specs.Partitions.{nobody, bit, signalled, masked, unmasked, acknowledged}

@@ -2,11 +2,11 @@
 use Rattle.std.proofs.Common.{◌≡◌, ℕ, zero, suc, ◌+◌, ◌<◌, ◌≤◌, true, false, leb, ltb, List, [], ◌∷◌, get_or, length, Some, Option, sym, ap, ◌∙◌, subst, arith}
 use Rattle.std.proofs.lemmas.Bool.{and_parts, and_from, leb-true, ltb-true, le-leb, lt-ltb, false_from_ne_true, cond-true, cond-false, cond_both}
 use Rattle.std.proofs.lemmas.List.{get_or-take, length-take}
-use Rattle.vector.specs.Blank.{slot0}
-use Rattle.vector.specs.Laws.{slot_at}
-use Rattle.vector.specs.Rows.{slot_end}
-use Rattle.vector.specs.declared.tables.Plan.{Plan}
-use Rattle.vector.specs.declared.tables.Slot.{Slot}
+use Rattle.tables.specs.Blank.{slot0}
+use Rattle.tables.specs.Laws.{slot_at}
+use Rattle.tables.specs.Rows.{slot_end}
+use Rattle.tables.specs.declared.plan.Plan.{Plan}
+use Rattle.tables.specs.declared.plan.Slot.{Slot}
 use Rattle.machine.specs.Questions.{covers, slots_of, holder}
 use Rattle.machine.specs.Searches.{RunsAt, Apart, Held}
 use Rattle.machine.proofs.Names.{none-not, some_inj}

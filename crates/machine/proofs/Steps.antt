@@ -1,7 +1,8 @@
 -- One event: a kept one takes like states to like states, and an outsider's leaves a state like itself.
 use Rattle.std.proofs.Common.{◌≡◌, ℕ, zero, suc, ◌-◌, Bool, true, false, cond, ◌&&◌, ltb, List, [], length, replicate, Some, None, Option, sym, refl, ap, ◌∙◌, subst, ap₂, inl, inr}
 use Rattle.std.proofs.lemmas.Bool.{both_ways, and_parts, and_left, eqb-true, cases_Bool}
-use Rattle.vector.specs.declared.tables.Tables.{Tables}
+use Rattle.board.specs.Areas.{Area, area, wiped}
+use Rattle.tables.specs.declared.Tables.{Tables}
 use Rattle.machine.specs.declared.clock.Clock.{Clock}
 use Rattle.machine.specs.declared.partition.Partition.{Partition}
 use Rattle.machine.specs.declared.event.Event.{Event}
@@ -10,7 +11,7 @@ use Rattle.machine.specs.declared.answer.Reply.{Reply}
 use Rattle.machine.specs.declared.answer.Refusal.TheVariants.{InvalidParam, SystemHalted}
 use Rattle.machine.specs.Partitions.{is_ready}
 use Rattle.machine.specs.Questions.{exists, is_system, names, owner, holder, slots_of, plan}
-use Rattle.machine.specs.State.{Core, State, Effect, keeps, writes, clears, clears_all, Out, refused, guard, area, wiped, wiped_all, applied, settle}
+use Rattle.machine.specs.State.{Core, State, Effect, keeps, writes, clears, clears_all, Out, refused, guard, wiped_all, applied, settle}
 use Rattle.machine.specs.Calls.{called}
 use Rattle.machine.specs.Interrupts.{line_of}
 use Rattle.machine.specs.Faults.{strayed}
@@ -40,21 +41,21 @@ module _ (M C : ℕ → Bool) where
 
 -- the areas
 module _ (M : ℕ → Bool) where
-  agree_wiped : (t : ℕ) {xs ys : List (List ℕ)} → Agree M [] xs ys → Agree M [] (wiped t xs) (wiped t ys)
-  agree_wiped t r = agree_set M [] r t _ _ (λ m. ap (λ (a : List ℕ). replicate (length a) 0) (r.at t m))
+  agree_wiped : (t : ℕ) {xs ys : List Area} → Agree M [] xs ys → Agree M [] (wiped xs t) (wiped ys t)
+  agree_wiped t r = agree_set M [] r t _ _ (λ m. ap (λ (a : Area). replicate (length a) 0) (r.at t m))
 
-  agree_wiped_all : (n : ℕ) {xs ys : List (List ℕ)} → Agree M [] xs ys → Agree M [] (wiped_all n xs) (wiped_all n ys)
+  agree_wiped_all : (n : ℕ) {xs ys : List Area} → Agree M [] xs ys → Agree M [] (wiped_all n xs) (wiped_all n ys)
   unfolding wiped_all
   agree_wiped_all zero r = r
   agree_wiped_all (suc n) r = agree_wiped n (agree_wiped_all n r)
 
-  agree_applied : (f : Effect) (q : ℕ) {xs ys : List (List ℕ)} → Agree M [] xs ys → Agree M [] (applied f q xs) (applied f q ys)
+  agree_applied : (f : Effect) (q : ℕ) {xs ys : List Area} → Agree M [] xs ys → Agree M [] (applied f q xs) (applied f q ys)
   agree_applied keeps q r = r
   agree_applied (writes a) q r = agree_set M [] r q a a (λ _. refl)
   agree_applied (clears t) q r = agree_wiped t r
   agree_applied (clears_all n) q r = agree_wiped_all n r
 
-  applied-out : (f : Effect) (q : ℕ) (xs : List (List ℕ)) → M q ≡ false → Far M f → Agree M [] xs (applied f q xs)
+  applied-out : (f : Effect) (q : ℕ) (xs : List Area) → M q ≡ false → Far M f → Agree M [] xs (applied f q xs)
   applied-out keeps q xs o h = agree_refl M [] xs
   applied-out (writes a) q xs o h = agree_out M [] xs q a o
   applied-out (clears t) q xs o h = agree_out M [] xs t _ h
@@ -63,7 +64,7 @@ module _ (M : ℕ → Bool) where
 -- the events that a partition may send
 module _ (k : Tables) (M C : ℕ → Bool) where
   -- a load and a store, by what they do within the area
-  abbrev access : Effect → Reply → ℕ → ℕ → Core → List ℕ → Out
+  abbrev access : Effect → Reply → ℕ → ℕ → Core → Area → Out
   access f p q o x a = guard (ltb o (length a)) (record { core = x; effect = f; reply = p }) (strayed k x q)
 
   access_matched : (f : Effect) (p : Reply) (q o : ℕ) (x y : Core) (a : List ℕ) → Alike M C x y →
@@ -199,7 +200,7 @@ module _ (k : Tables) (M C : ℕ → Bool) (w : Sealed k M C) where
       record { state = settled 0 0 s t _ _ r h; reply = λ p n e. absurd (both_ways false refl e) }
 
   -- a line leaves the areas alone
-  line-areas : (x : Core) (ms : List (List ℕ)) (l : ℕ) (b c : Bool) (o : Option ℕ) →
+  line-areas : (x : Core) (ms : List Area) (l : ℕ) (b c : Bool) (o : Option ℕ) →
       Agree M [] ms (applied (guard b (refused x SystemHalted) (guard c (line_of o x l) (refused x InvalidParam))).effect 0 ms)
   line-areas x ms l true c o = agree_refl M [] ms
   line-areas x ms l false false o = agree_refl M [] ms

@@ -1,7 +1,7 @@
 -- The calls on time, partitions and plans.
 use Rattle.std.proofs.Common.{◌≡◌, ℕ, Bool, true, false, eqb, get_or, pos, refl, ap, ◌∙◌, inl, inr}
 use Rattle.std.proofs.lemmas.Bool.{both_ways, or_cases, eqb-true, cases_Bool}
-use Rattle.vector.specs.declared.tables.Tables.{Tables}
+use Rattle.tables.specs.declared.Tables.{Tables}
 use Rattle.machine.specs.declared.clock.Clock.{Clock}
 use Rattle.machine.specs.declared.partition.Partition.{Partition}
 use Rattle.machine.specs.declared.answer.Refusal.TheVariants.{NoAction}

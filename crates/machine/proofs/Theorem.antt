@@ -1,14 +1,16 @@
 -- Whole histories: isolation.
 use Rattle.std.proofs.Common.{◌≡◌, ℕ, Bool, true, false, cond, not, List, [], ◌∷◌, length, replicate, Some, None, Option, sym, refl, ap, ◌∙◌, ap₂}
 use Rattle.std.proofs.lemmas.Bool.{both_ways, ne_eqb}
-use Rattle.vector.specs.declared.tables.Tables.{Tables}
+use Rattle.board.specs.Areas.{Area, area}
+use Rattle.tables.specs.declared.Tables.{Tables}
 use Rattle.machine.specs.declared.event.Event.{Event}
 use Rattle.machine.specs.declared.answer.Reply.{Reply}
 use Rattle.machine.specs.Partitions.{nobody, fresh}
 use Rattle.machine.specs.Questions.{is_system, names}
-use Rattle.machine.specs.State.{State, area}
+use Rattle.machine.specs.State.{State}
 use Rattle.machine.specs.Step.{step, boot, fits}
-use Rattle.machine.specs.Isolation.{Fair, whose, is_of, stays, kept, strike, Sight, sight, answers_to, sights, sheet, Isolated}
+use Rattle.tables.specs.Fair.{OneSource, OneDestination}
+use Rattle.machine.specs.Isolation.{whose, is_of, stays, kept, strike, Sight, sight, answers_to, sights, sheet, Isolated}
 use Rattle.machine.proofs.Agree.{agree_refl}
 use Rattle.machine.proofs.Sealed.{Sealed, seen, sealed}
 use Rattle.machine.proofs.Steps.{Like, like_refl, like_sym, like_trans, step_steady, step_quiet}
@@ -57,7 +59,7 @@ module _ (k : Tables) (M C : ℕ → Bool) (w : Sealed k M C) (p : ℕ) (m : M p
       (u.told ∙ (ap (answers_to p k s) e ∙ sym v.told))
       (ap₂ {C = List Sight} (λ a b. a ∷ b) (sight-same s t r) (u.seen ∙ (ap (sights p M k s) e ∙ sym v.seen)))
 
-booted : (k : Tables) (M C : ℕ → Bool) (ms ns : List (List ℕ)) → length ms ≡ length ns → fits k ms ≡ true → fits k ns ≡ true →
+booted : (k : Tables) (M C : ℕ → Bool) (ms ns : List Area) → length ms ≡ length ns → fits k ms ≡ true → fits k ns ≡ true →
     ((q : ℕ) → M q ≡ true → area ms q ≡ area ns q) → Like M C (boot k ms) (boot k ns)
 booted k M C ms ns l f g a =
     record {
@@ -70,7 +72,7 @@ booted k M C ms ns l f g a =
       areas = record { long = l; at = a };
     }
 
-pub isolated : (k : Tables) → Fair k → (ms : List (List ℕ)) (h : List Event) → Isolated k ms h
-isolated k v ms h p e n M c ns l f g a i j =
+pub isolated : (k : Tables) → OneSource k → OneDestination k → (ms : List Area) (h : List Event) → Isolated k ms h
+isolated k s d ms h p e n M c ns l f g a i j =
     let C = seen k M in
-    meet k M C (sealed k M c.closed v) p c.itself n (boot k ms) (boot k ns) (booted k M C ms ns l f g a) h i j
+    meet k M C (sealed k M c.closed s d) p c.itself n (boot k ms) (boot k ns) (booted k M C ms ns l f g a) h i j

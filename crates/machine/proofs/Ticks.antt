@@ -1,13 +1,13 @@
 -- Time passes alike for machines that are alike.
 use Rattle.std.proofs.Common.{◌≡◌, ℕ, zero, suc, ◌+◌, ◌-◌, Bool, ◌&&◌, leb, List, [], ◌∷◌, length, get_or, sym, refl, ap, ◌∙◌, subst, arith}
-use Rattle.vector.specs.declared.tables.Tables.{Tables}
-use Rattle.vector.specs.Tables.{Plans}
+use Rattle.tables.specs.declared.Tables.{Tables}
+use Rattle.tables.specs.Tables.{Plans}
 use Rattle.machine.specs.declared.clock.Clock.{Clock}
 use Rattle.machine.specs.declared.partition.Partition.{Partition}
 use Rattle.machine.specs.Partitions.{nobody}
 use Rattle.machine.specs.Questions.{slots_of}
 use Rattle.machine.specs.State.{Core, keeps}
-use Rattle.machine.specs.Time.{Timed, timed, plan_at, rolled, each_from, wakes, wake_at, micro, micros}
+use Rattle.machine.specs.Time.{Timed, timed, plan_at, rolled, each_from, wakes, wake_at, micro, micros, farthest}
 use Rattle.machine.specs.Step.{later, tick}
 use Rattle.machine.proofs.Agree.{Agree}
 use Rattle.machine.proofs.Alike.{Alike, Matched, matched_guard, matched_same}
@@ -64,7 +64,7 @@ module _ (k : Tables) (M C : ℕ → Bool) where
 
   pub tick_matched : (q t : ℕ) (x y : Core) → Alike M C x y → Matched k M C q (tick k x t) (tick k y t)
   tick_matched q t x y r =
-      matched_guard k M C q _ _ (ap (λ (c : Clock). leb c.time t && leb (t - c.time) 1000000) r.clock)
+      matched_guard k M C q _ _ (ap (λ (c : Clock). leb c.time t && leb (t - c.time) farthest) r.clock)
       (λ _. matched_same k M C q keeps _
       (subst (λ (c : Clock). Alike M C (later k (t - x.clock.time) x) (later k (t - c.time) y)) r.clock
       (later_alike (t - x.clock.time) x y r)))

@@ -1,6 +1,6 @@
 -- The numbers of each answer: a code and the values a and b, 0 where the answer names none.
 use Rattle.std.specs.Prelude.{ℕ, ◌+◌, ◌*◌, ℤ, pos, negsuc, Result, Ok, Err}
-use Rattle.vector.specs.Encoding.{scope_number, action_number}
+use Rattle.tables.specs.Numbers.{scope_number, action_number}
 use Rattle.machine.specs.declared.partition.Status.{Status}
 use Rattle.machine.specs.declared.partition.Status.TheVariants.{Halted, Ready, Idle, Suspended}
 use Rattle.machine.specs.declared.log.Entry.{Entry}

@@ -1,5 +1,5 @@
 -- The calls by their numbers.
-use Rattle.std.specs.Prelude.{ℕ, cond, List, [], ◌∷◌, nat_lt, slice_index_or, Result, Ok, Err}
+use Rattle.std.specs.Prelude.{ℕ, cond, List, [], ◌∷◌, length, nat_lt, slice_index_or, Result, Ok, Err}
 use Rattle.machine.specs.declared.event.Hypercall.{Hypercall}
 use Rattle.machine.specs.declared.event.Hypercall.TheVariants.{GetTime, GetPartitionStatus, HaltPartition, SuspendPartition, ResumePartition, ResetPartition, IdleSelf, SwitchPlan, GetPlanStatus, CreateSamplingPort, WriteSamplingMessage, ReadSamplingMessage, CreateQueuingPort, SendQueuingMessage, ReceiveQueuingMessage, GetQueuingStatus, RaiseIpvi, GetIrqs, SetIrqMask, ClearIrqMask, ClearIrqPending, RaisePartitionError, ReadLog, ResetSystem, HaltSystem}
 use Rattle.machine.specs.declared.answer.Refusal.{Refusal}
@@ -37,7 +37,7 @@ perform ReadLog = read_log
 perform ResetSystem = reset_system
 perform HaltSystem = halt_system
 
--- the calls 0 to 24
+-- the calls by their numbers, from 0
 abbrev pub calls : List Hypercall
 calls =
     GetTime ∷ GetPartitionStatus ∷ HaltPartition ∷ SuspendPartition ∷ ResumePartition ∷ ResetPartition
@@ -47,9 +47,13 @@ calls =
     ∷ RaiseIpvi ∷ GetIrqs ∷ SetIrqMask ∷ ClearIrqMask ∷ ClearIrqPending
     ∷ RaisePartitionError ∷ ReadLog ∷ ResetSystem ∷ HaltSystem ∷ []
 
+-- how many there are: a call's number is below this
+abbrev pub call_count : ℕ
+call_count = length calls
+
 -- the call of a number, if there is one
 abbrev pub call_of : ℕ → Result Hypercall Refusal
-call_of n = cond (nat_lt n 25) (Ok (slice_index_or calls n GetTime)) (Err UnknownHypercall)
+call_of n = cond (nat_lt n call_count) (Ok (slice_index_or calls n GetTime)) (Err UnknownHypercall)
 
 -- what such a call does
 abbrev pub attempted : Result Hypercall Refusal → Call

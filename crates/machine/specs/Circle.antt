@@ -1,7 +1,7 @@
 -- The circle of a partition: all whose doings may reach it.
 use Rattle.std.specs.Prelude.{◌≡◌, ℕ, zero, suc, ◌^◌, ◌<◌, ◌≤◌, Bool, true, cond, not, ◌&&◌, ◌==◌, bit_and, bit_or}
-use Rattle.vector.specs.declared.tables.Tables.{Tables}
-use Rattle.vector.specs.declared.tables.ChannelKind.TheVariants.{Queuing}
+use Rattle.tables.specs.declared.Tables.{Tables}
+use Rattle.tables.specs.declared.channel.ChannelKind.TheVariants.{Queuing}
 use Rattle.machine.specs.Partitions.{bit}
 use Rattle.machine.specs.Questions.{exists, is_system, link, port, channel_of, channel, is_source, same_kind, hears}
 

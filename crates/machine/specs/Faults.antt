@@ -1,26 +1,26 @@
 -- The health monitor: its log, and what each response does.
 use Rattle.std.specs.Prelude.{ℕ, ◌-◌, Bool, true, ◌&&◌, cond, [], replicate, pos, nat_le, nat_lt, slice_index_or}
 use Rattle.queue.specs.Ring.{over}
-use Rattle.vector.specs.declared.tables.Tables.{Tables}
-use Rattle.vector.specs.declared.tables.Response.{Response}
-use Rattle.vector.specs.declared.tables.Action.{Action}
-use Rattle.vector.specs.declared.tables.Action.TheVariants.{Ignore, Signal, Suspend, Halt, WarmReset, ColdReset}
-use Rattle.vector.specs.declared.record.Scope.{Scope}
-use Rattle.vector.specs.declared.record.Scope.TheVariants.{Partition, System}
-use Rattle.vector.specs.Blank.{response0}
+use Rattle.tables.specs.declared.Tables.{Tables}
+use Rattle.tables.specs.declared.response.Response.{Response}
+use Rattle.tables.specs.declared.response.Action.{Action}
+use Rattle.tables.specs.declared.response.Action.TheVariants.{Ignore, Signal, Suspend, Halt, WarmReset, ColdReset}
+use Rattle.tables.specs.declared.response.Scope.{Scope}
+use Rattle.tables.specs.declared.response.Scope.TheVariants.{Partition, System}
+use Rattle.tables.specs.Blank.{response0}
 use Rattle.machine.specs.declared.log.Entry.{Entry}
 use Rattle.machine.specs.Partitions.{halted, suspended, fresh, signalled}
-use Rattle.vector.specs.Encoding.{action_number}
+use Rattle.tables.specs.Numbers.{action_number}
 use Rattle.machine.specs.Answers.{reply}
 use Rattle.machine.specs.Questions.{response}
-use Rattle.machine.specs.Time.{clock_of}
+use Rattle.machine.specs.Time.{Time}
 use Rattle.machine.specs.State.{Core, Effect, keeps, clears, clears_all, Out, replied, with_clock, with_parts, with_chans, with_log, with_halted, modify}
 
 -- the bit that signals a fault
 abbrev pub fault_bit : ℕ
 fault_bit = 512
 
-abbrev pub entry : Scope → ℕ → Action → ℕ → Entry
+abbrev pub entry : Scope → ℕ → Action → Time → Entry
 entry c e a t = record { action = a; scope = c; event = e; time = t }
 
 -- one entry more in the log of 32, where the oldest gives way
@@ -54,7 +54,8 @@ strayed k x q = replied (reply (pos 1) 0 0) (faulted k x q 6)
 
 -- a system reset: every partition reset, the channels empty, both plans 0, a frame begins now
 abbrev pub restarted : Core → Core
-restarted x = with_chans (with_parts (with_clock x (clock_of x.clock.time 0 0 x.clock.time)) (replicate 8 fresh)) (replicate 8 [])
+restarted x =
+    with_chans (with_parts (with_clock x (record x.clock { plan = 0; next = 0; start = x.clock.time })) (replicate 8 fresh)) (replicate 8 [])
 
 -- what an action does to the system; a cold reset also empties the log and the partitions' areas
 abbrev pub system_carried : Tables → Action → Core → Out

@@ -1,13 +1,14 @@
 -- Integrity: nobody writes into another's area.
 use Rattle.std.specs.Prelude.{◌≡◌, ℕ, Bool, true, false, ◌&&◌, ◌||◌, List, ◌==◌, ◌≢◌}
-use Rattle.vector.specs.Names.{any}
-use Rattle.vector.specs.declared.tables.Tables.{Tables}
-use Rattle.vector.specs.declared.tables.Action.{Action}
-use Rattle.vector.specs.declared.tables.Action.TheVariants.{Ignore, Signal, Suspend, Halt, WarmReset, ColdReset}
+use Rattle.board.specs.Areas.{area}
+use Rattle.tables.specs.Names.{any}
+use Rattle.tables.specs.declared.Tables.{Tables}
+use Rattle.tables.specs.declared.response.Action.{Action}
+use Rattle.tables.specs.declared.response.Action.TheVariants.{Ignore, Signal, Suspend, Halt, WarmReset, ColdReset}
 use Rattle.machine.specs.declared.event.Event.{Event}
 use Rattle.machine.specs.declared.event.Event.TheVariants.{Tick, Call, Load, Store, Fault, Line, SystemFault}
 use Rattle.machine.specs.Questions.{is_system}
-use Rattle.machine.specs.State.{State, area}
+use Rattle.machine.specs.State.{State}
 use Rattle.machine.specs.Faults.{is_systems, system_response}
 use Rattle.machine.specs.Management.{arg}
 use Rattle.machine.specs.Step.{step}
@@ -18,7 +19,8 @@ use Rattle.machine.specs.Isolation.{is_of}
 abbrev pub is_cold : ℕ → List ℕ → Bool
 is_cold n g = (n == 5 && arg g 1 == 1) || (n == 23 && arg g 0 == 1)
 
--- .. by a system partition
+-- .. by a system partition. Integrity rests on this, and on `is_cold_fault` below: each sort of event has a line of its
+-- own, so that a new one is not let through unseen
 abbrev pub is_cold_reset : Tables → Event → Bool
 is_cold_reset k (Tick t) = false
 is_cold_reset k (Call q n g) = is_system k q && is_cold n g
@@ -34,7 +36,7 @@ Integral k s e =
     (q r : ℕ) → is_of k q e ≡ true → is_cold_reset k e ≡ false → (r ≢ q) →
     area (step k s e).state.areas r ≡ area s.areas r
 
--- is this action of the health monitor a cold reset
+-- is this action of the health monitor a cold reset; a line for each, as above
 abbrev pub is_cold_action : Action → Bool
 is_cold_action Ignore = false
 is_cold_action Signal = false

@@ -1,6 +1,6 @@
 -- The calls on interrupts, and the signals of lines: 16 to 20.
 use Rattle.std.specs.Prelude.{ℕ, zero, suc, ◌+◌, ◌^◌, cond, List, Some, None, Option, ◌==◌, nat_lt, slice_index_or}
-use Rattle.vector.specs.declared.tables.Tables.{Tables}
+use Rattle.tables.specs.declared.Tables.{Tables}
 use Rattle.machine.specs.declared.partition.Partition.{Partition}
 use Rattle.machine.specs.declared.answer.Refusal.TheVariants.{NoAction, InvalidParam}
 use Rattle.machine.specs.Partitions.{nobody, bit, signalled, masked, unmasked, acknowledged}

@@ -1,38 +1,24 @@
 -- Isolation: what a partition is answered, and what it looks like, does not depend on the outsiders of its circle.
-use Rattle.std.specs.Prelude.{◌≡◌, ℕ, ◌<◌, Bool, true, false, cond, List, [], ◌∷◌, length, Some, None, Option, nat_lt, slice_index_or}
-use Rattle.vector.specs.declared.tables.Tables.{Tables}
+use Rattle.std.specs.Prelude.{◌≡◌, ℕ, Bool, true, false, cond, List, [], ◌∷◌, length, Some, None, Option, nat_lt, slice_index_or}
+use Rattle.board.specs.Areas.{Area, area}
+use Rattle.tables.specs.declared.Tables.{Tables}
 use Rattle.machine.specs.declared.partition.Partition.{Partition}
 use Rattle.machine.specs.declared.clock.Clock.{Clock}
 use Rattle.machine.specs.declared.event.Event.{Event}
 use Rattle.machine.specs.declared.event.Event.TheVariants.{Tick, Call, Load, Store, Fault, Line, SystemFault}
 use Rattle.machine.specs.declared.answer.Reply.{Reply}
 use Rattle.machine.specs.Partitions.{nobody}
-use Rattle.machine.specs.Questions.{exists, is_system, names, owner, channel_of}
-use Rattle.machine.specs.State.{State, area}
+use Rattle.machine.specs.Questions.{exists, is_system, names, owner}
+use Rattle.machine.specs.State.{State}
 use Rattle.machine.specs.Step.{step, boot, fits}
-use Rattle.machine.specs.Circle.{is_source_port, is_queuing, Circle}
-
--- two source ports of one channel are one port
-abbrev pub OneWriter : Tables → Type 0
-OneWriter k =
-    (i j : ℕ) → i < k.ports.count → j < k.ports.count → channel_of k i ≡ channel_of k j →
-    is_source_port k i ≡ true → is_source_port k j ≡ true → i ≡ j
-
--- two destination ports of one queuing channel are one port
-abbrev pub OneReader : Tables → Type 0
-OneReader k =
-    (i j : ℕ) → i < k.ports.count → j < k.ports.count → channel_of k i ≡ channel_of k j → is_queuing k i ≡ true →
-    is_source_port k i ≡ false → is_source_port k j ≡ false → i ≡ j
-
--- what isolation asks of the tables, and every checked vector gives
-abbrev pub Fair : Tables → Type 0
-Fair k = OneWriter k × OneReader k
+use Rattle.machine.specs.Circle.{Circle}
 
 -- a partition of the vector, by its number
 abbrev pub existing : Tables → ℕ → Option ℕ
 existing k q = cond (exists k q) (Some q) None
 
--- whose event it is: the partition's that it names, or the line's owner's; else nobody's
+-- whose event it is: the partition's that it names, or the line's owner's; else nobody's. Each sort has a line of its own,
+-- so that a new one does not slip in as nobody's
 abbrev pub whose : Tables → Event → Option ℕ
 whose k (Tick t) = None
 whose k (Call q n g) = existing k q
@@ -60,7 +46,7 @@ strike k M (e ∷ es) = cond (kept k M e) (e ∷ strike k M es) (strike k M es)
 
 -- what p looks like: its area, its state, interrupt words and open ports; and the plan position
 pub record Sight : Type 0 where
-  pub bytes : List ℕ
+  pub bytes : Area
   pub part : Partition
   pub clock : Clock
   pub halted : Bool
@@ -90,10 +76,10 @@ abbrev pub sheet : ℕ → (ℕ → Bool) → Tables → State → List Event �
 sheet p M k s h = record { told = answers_to p k s h; seen = sight p s ∷ sights p M k s h }
 
 -- each standard partition's sheet is the same in every run that agrees with this one inside its circle
-abbrev pub Isolated : Tables → List (List ℕ) → List Event → Type 0
+abbrev pub Isolated : Tables → List Area → List Event → Type 0
 Isolated k ms h =
     (p : ℕ) → exists k p ≡ true → is_system k p ≡ false → (M : ℕ → Bool) → Circle k p M →
-    (ns : List (List ℕ)) → length ms ≡ length ns → fits k ms ≡ true → fits k ns ≡ true →
+    (ns : List Area) → length ms ≡ length ns → fits k ms ≡ true → fits k ns ≡ true →
     ((q : ℕ) → M q ≡ true → area ms q ≡ area ns q) →
     (i : List Event) → strike k M h ≡ strike k M i →
     sheet p M k (boot k ms) h ≡ sheet p M k (boot k ns) i

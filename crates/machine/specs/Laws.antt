@@ -1,23 +1,23 @@
 -- Laws of the machine, in every state and over all runs.
 use Rattle.std.specs.Prelude.{◌≡◌, ℕ, zero, suc, ◌+◌, ◌-◌, ◌<◌, ◌≤◌, Bool, true, false, ◌&&◌, ◌||◌, List, [], ◌∷◌, length, get_or, negsuc, Some, ◌==◌, nat_lt, slice_index_or}
-use Rattle.vector.specs.Laws.{channel_at, slot_at, Lawful}
-use Rattle.vector.specs.declared.tables.Tables.{Tables}
-use Rattle.vector.specs.Tables.{Plans}
-use Rattle.vector.specs.declared.tables.ChannelKind.{ChannelKind}
-use Rattle.vector.specs.declared.tables.ChannelKind.TheVariants.{Sampling, Queuing}
-use Rattle.vector.specs.declared.tables.Action.{Action}
-use Rattle.vector.specs.declared.tables.Action.TheVariants.{Ignore, Signal, Suspend, Halt, WarmReset, ColdReset}
+use Rattle.tables.specs.Laws.{channel_at, slot_at, Lawful}
+use Rattle.tables.specs.declared.Tables.{Tables}
+use Rattle.tables.specs.Tables.{Plans}
+use Rattle.tables.specs.declared.channel.ChannelKind.{ChannelKind}
+use Rattle.tables.specs.declared.channel.ChannelKind.TheVariants.{Sampling, Queuing}
+use Rattle.tables.specs.declared.response.Action.{Action}
+use Rattle.tables.specs.declared.response.Action.TheVariants.{WarmReset, ColdReset}
 use Rattle.machine.specs.declared.clock.Clock.{Clock}
 use Rattle.machine.specs.declared.partition.Status.TheVariants.{Halted, Ready, Idle}
 use Rattle.machine.specs.declared.event.Event.{Event}
-use Rattle.machine.specs.declared.event.Event.TheVariants.{Tick, Call, Load, Store, Fault, Line, SystemFault}
+use Rattle.machine.specs.declared.event.Event.TheVariants.{Tick, Call, SystemFault}
 use Rattle.machine.specs.declared.log.Entry.{Entry}
 use Rattle.machine.specs.Letters.{Letter}
 use Rattle.machine.specs.Partitions.{nobody, fresh, hidden, is_open}
 use Rattle.machine.specs.Questions.{exists, is_system, plan, slots_of, holder, port}
 use Rattle.machine.specs.Searches.{RunsAt}
 use Rattle.machine.specs.State.{Core, State}
-use Rattle.machine.specs.Time.{plan_at, rolled}
+use Rattle.machine.specs.Time.{plan_at, rolled, Time}
 use Rattle.machine.specs.Faults.{is_systems, system_response}
 use Rattle.machine.specs.Management.{arg}
 use Rattle.machine.specs.Step.{running, step}
@@ -63,11 +63,11 @@ abbrev pub longest : Tables → ℕ → ℕ
 longest k c = (channel_at c k).longest
 
 -- each entry is from the time t or later, and from a time up to t
-abbrev pub Since : ℕ → List Entry → Type 0
+abbrev pub Since : Time → List Entry → Type 0
 Since t [] = Unit {0}
 Since t (e ∷ es) = (t ≤ e.time) × Since t es
 
-abbrev pub Until : ℕ → List Entry → Type 0
+abbrev pub Until : Time → List Entry → Type 0
 Until t [] = Unit {0}
 Until t (e ∷ es) = (e.time ≤ t) × Until t es
 
@@ -126,23 +126,17 @@ is_reset n g = n == 23 && nat_lt (arg g 0) 2
 
 -- does this action of the health monitor reset the system
 abbrev pub resets : Action → Bool
-resets Ignore = false
-resets Signal = false
-resets Suspend = false
-resets Halt = false
 resets WarmReset = true
 resets ColdReset = true
+resets _ = false
 
 -- may the event change the plan: a tick in which a frame ends, a system reset by the system partition on the processor,
 -- or a fault of the system whose response is a reset
 abbrev pub replans : Tables → State → Event → Bool
 replans k s (Tick t) = ends_within k.plans (t - s.core.clock.time) s.core.clock
 replans k s (Call q n g) = running k s.core q && (is_system k q && is_reset n g)
-replans k s (Load q o) = false
-replans k s (Store q v o) = false
-replans k s (Fault q e) = false
-replans k s (Line l) = false
 replans k s (SystemFault e) = is_systems e && resets (system_response k e).action
+replans k s _ = false
 
 -- No other event does: plans switch where a frame ends.
 abbrev pub Planned : Tables → State → Event → Type 0

@@ -16,7 +16,6 @@ pub mod Runs
 pub mod Circle
 pub mod Isolation
 pub mod Integrity
-pub mod Examples
 pub mod Laws
 pub mod Searches
 pub mod Packing

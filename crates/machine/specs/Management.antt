@@ -1,7 +1,9 @@
 -- The calls on time, partitions and plans: 0 to 8.
 use Rattle.std.specs.Prelude.{ℕ, ◌+◌, ◌-◌, cond, List, [], ◌∷◌, Result, Ok, Err, pos, ◌==◌, nat_lt, slice_index, slice_index_or, slice_set}
-use Rattle.vector.specs.declared.tables.Tables.{Tables}
-use Rattle.vector.specs.declared.tables.Slot.{Slot}
+use Rattle.board.specs.Areas.{Area}
+use Rattle.tables.specs.declared.Tables.{Tables}
+use Rattle.tables.specs.declared.plan.Slot.{Slot}
+use Rattle.tables.specs.Tables.{Offset}
 use Rattle.machine.specs.declared.answer.Refusal.{Refusal}
 use Rattle.machine.specs.declared.answer.Refusal.TheVariants.{NoAction, InvalidParam, PermError}
 use Rattle.machine.specs.declared.event.ResetMode.{ResetMode}
@@ -10,11 +12,10 @@ use Rattle.machine.specs.Answers.{reply, status_number}
 use Rattle.machine.specs.Partitions.{nobody, fresh, halted, suspended, resumed, idled, is_active, is_suspended}
 use Rattle.machine.specs.Questions.{exists, manages, is_system, plan, slots_of}
 use Rattle.machine.specs.State.{Core, clears, Out, answered, told, done, refused, guard, with_clock, with_parts, modify}
-use Rattle.machine.specs.Time.{clock_of}
 
 -- a call: tables, core, the caller's own area, the caller, the arguments
 abbrev pub Call : Type 0
-Call = Tables → Core → List ℕ → ℕ → List ℕ → Out
+Call = Tables → Core → Area → ℕ → List ℕ → Out
 
 -- an argument by its place
 abbrev pub arg : List ℕ → ℕ → ℕ
@@ -74,12 +75,12 @@ abbrev pub switch_plan : Call
 switch_plan k x a q g =
     guard (nat_lt (arg g 0) k.plans.count)
     (guard (is_system k q)
-    (done (with_clock x (clock_of x.clock.time x.clock.plan (arg g 0) x.clock.start)))
+    (done (with_clock x (record x.clock { next = arg g 0 })))
     (refused x PermError))
     (refused x InvalidParam)
 
 -- the microseconds without a slot from e to the frame's end f, gap by gap
-unfoldable pub gaps : ℕ → List Slot → ℕ → ℕ
+unfoldable pub gaps : Offset → List Slot → Offset → Offset
 gaps e [] f = f - e
 gaps e (s ∷ ss) f = (s.start - e) + gaps (s.start + s.duration) ss f
 

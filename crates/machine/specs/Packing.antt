@@ -1,8 +1,8 @@
 -- What the one word of a log entry tells: call 22 shows scope, event and action in it.
 use Rattle.std.specs.Prelude.{◌≡◌, ℕ, ◌/◌, ◌%◌, ◌<◌}
-use Rattle.vector.specs.Encoding.{scope_number, action_number}
-use Rattle.vector.specs.declared.record.Scope.{Scope}
-use Rattle.vector.specs.declared.record.Scope.TheVariants.{Partition, System}
+use Rattle.tables.specs.Numbers.{scope_number, action_number}
+use Rattle.tables.specs.declared.response.Scope.{Scope}
+use Rattle.tables.specs.declared.response.Scope.TheVariants.{Partition, System}
 use Rattle.machine.specs.declared.log.Entry.{Entry}
 use Rattle.machine.specs.Answers.{packed}
 

@@ -20,13 +20,13 @@ abbrev pub halted : Partition → Partition
 halted p = cleared Halted
 
 abbrev pub with_status : Status → Partition → Partition
-with_status s p = record { status = s; pending = p.pending; mask = p.mask; ports = p.ports }
+with_status s p = record p { status = s }
 
 abbrev pub with_pending : ℕ → Partition → Partition
-with_pending n p = record { status = p.status; pending = n; mask = p.mask; ports = p.ports }
+with_pending n p = record p { pending = n }
 
 abbrev pub with_mask : ℕ → Partition → Partition
-with_mask n p = record { status = p.status; pending = p.pending; mask = n; ports = p.ports }
+with_mask n p = record p { mask = n }
 
 abbrev pub suspended : Partition → Partition
 suspended p = with_status Suspended p
@@ -46,7 +46,7 @@ abbrev pub is_open : ℕ → Partition → Bool
 is_open i p = bit p.ports i
 
 abbrev pub opened : ℕ → Partition → Partition
-opened i p = record { status = p.status; pending = p.pending; mask = p.mask; ports = bit_or p.ports (2 ^ i) }
+opened i p = record p { ports = bit_or p.ports (2 ^ i) }
 
 -- bits set in the mask, cleared in the mask, cleared in the pending word
 abbrev pub masked : ℕ → Partition → Partition
@@ -59,29 +59,22 @@ abbrev pub acknowledged : ℕ → Partition → Partition
 acknowledged bits p = with_pending (without bits p.pending) p
 
 abbrev pub is_ready : Status → Bool
-is_ready Halted = false
 is_ready Ready = true
-is_ready Idle = false
-is_ready Suspended = false
+is_ready _ = false
 
 abbrev pub is_idle : Status → Bool
-is_idle Halted = false
-is_idle Ready = false
 is_idle Idle = true
-is_idle Suspended = false
+is_idle _ = false
 
 -- READY or IDLE
 abbrev pub is_active : Status → Bool
-is_active Halted = false
 is_active Ready = true
 is_active Idle = true
-is_active Suspended = false
+is_active _ = false
 
 abbrev pub is_suspended : Status → Bool
-is_suspended Halted = false
-is_suspended Ready = false
-is_suspended Idle = false
 is_suspended Suspended = true
+is_suspended _ = false
 
 -- does the mask hide every pending bit; a mask bit that is 1 hides the bit of its number
 abbrev pub hidden : Partition → Bool
@@ -97,6 +90,10 @@ roused Suspended = Suspended
 -- .. where it is due
 abbrev pub woken : Bool → Partition → Partition
 woken due p = cond due (with_status (roused p.status) p) p
+
+-- what the start of its slot does to a partition: an IDLE one becomes READY
+abbrev pub slot_started : Partition → Partition
+slot_started p = woken true p
 
 -- to go idle, unless an unmasked bit is pending
 abbrev pub idled : Partition → Partition

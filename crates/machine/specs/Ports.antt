@@ -1,10 +1,11 @@
 -- The calls on ports and channels: 9 to 15.
-use Rattle.std.specs.Prelude.{ℕ, zero, suc, ◌+◌, Bool, true, cond, ◌&&◌, List, [], ◌∷◌, ◌++◌, length, take, drop, pos, Some, None, Option, ◌==◌, nat_le, nat_lt, slice_index_or}
-use Rattle.vector.specs.Names.{padded}
-use Rattle.vector.specs.Fields.{direction_number}
-use Rattle.vector.specs.declared.tables.Tables.{Tables}
-use Rattle.vector.specs.declared.tables.ChannelKind.{ChannelKind}
-use Rattle.vector.specs.declared.tables.ChannelKind.TheVariants.{Sampling, Queuing}
+use Rattle.std.specs.Prelude.{ℕ, zero, suc, Bool, true, cond, ◌&&◌, List, [], ◌∷◌, ◌++◌, length, pos, Some, None, Option, ◌==◌, nat_le, nat_lt, slice_index_or}
+use Rattle.board.specs.Areas.{Area, ranged, part, patched}
+use Rattle.tables.specs.Names.{padded}
+use Rattle.tables.specs.Numbers.{direction_number}
+use Rattle.tables.specs.declared.Tables.{Tables}
+use Rattle.tables.specs.declared.channel.ChannelKind.{ChannelKind}
+use Rattle.tables.specs.declared.channel.ChannelKind.TheVariants.{Sampling, Queuing}
 use Rattle.queue.specs.Ring.{first, rest}
 use Rattle.machine.specs.declared.partition.Partition.{Partition}
 use Rattle.machine.specs.declared.answer.Refusal.TheVariants.{NoAction, InvalidParam, InvalidConfig, InvalidMode, NotAvailable}
@@ -15,28 +16,16 @@ use Rattle.machine.specs.Letters.{Letter}
 use Rattle.machine.specs.Management.{Call, arg}
 use Rattle.machine.specs.State.{Core, writes, Out, answered, told, done, refused, guard, with_parts, with_chan, modify}
 
--- a range lies in the area: address and length add up to at most its size
-abbrev pub ranged : List ℕ → ℕ → ℕ → Bool
-ranged a o n = nat_le (o + n) (length a)
-
--- the bytes of a range
-abbrev pub part : List ℕ → ℕ → ℕ → List ℕ
-part a o n = take n (drop o a)
-
--- an area with other bytes from a place on
-abbrev pub patched : List ℕ → ℕ → List ℕ → List ℕ
-patched a o bs = take o a ++ (bs ++ drop (o + length bs) a)
-
 -- the bit that signals a message
 abbrev pub message_bit : ℕ
 message_bit = 256
 
 -- a name of at most 16 bytes in a range of the area, and a direction 0 or 1
-abbrev pub nameable : List ℕ → List ℕ → Bool
+abbrev pub nameable : Area → List ℕ → Bool
 nameable a g = (ranged a (arg g 0) (arg g 1) && nat_le (arg g 1) 16) && nat_lt (arg g 3) 2
 
 -- the caller's port of the name in its area, or none
-abbrev pub sought : Tables → List ℕ → ℕ → ChannelKind → List ℕ → Option ℕ
+abbrev pub sought : Tables → Area → ℕ → ChannelKind → List ℕ → Option ℕ
 sought k a q t g = cond (nameable a g) (named k q t (padded (part a (arg g 0) (arg g 1))) k.ports.count) None
 
 -- do the longest message and the direction agree with the vector's
@@ -83,10 +72,10 @@ alerted k c zero ps = ps
 alerted k c (suc n) ps = modify (alerted k c n ps) (port k n).partition (alert k c n)
 
 -- a message of 1 byte to the longest, from a range of the area
-abbrev pub sendable : Tables → List ℕ → List ℕ → Bool
+abbrev pub sendable : Tables → Area → List ℕ → Bool
 sendable k a g = (nat_le 1 (arg g 2) && nat_le (arg g 2) (channel k (arg g 0)).longest) && ranged a (arg g 1) (arg g 2)
 
-abbrev pub letter : Core → List ℕ → List ℕ → Letter
+abbrev pub letter : Core → Area → List ℕ → Letter
 letter x a g = record { bytes = part a (arg g 1) (arg g 2); time = x.clock.time }
 
 -- channel c holds these messages, and its readers are told
@@ -94,7 +83,7 @@ abbrev pub posted : Tables → Core → ℕ → List Letter → Core
 posted k x c ms = with_parts (with_chan x c ms) (alerted k c k.ports.count x.parts)
 
 -- a send by port, address and length: the tests that both types share
-abbrev pub sending : ChannelKind → Tables → Core → List ℕ → ℕ → List ℕ → Out → Out
+abbrev pub sending : ChannelKind → Tables → Core → Area → ℕ → List ℕ → Out → Out
 sending t k x a q g o =
     guard (usable k x q t (arg g 0) && sendable k a g)
     (guard (is_source (port k (arg g 0)).direction) o (refused x InvalidMode))
@@ -113,14 +102,14 @@ send_queuing_message k x a q g =
     (refused x NotAvailable))
 
 -- a receipt by port, address and length: the tests that both types share
-abbrev pub receiving : ChannelKind → Tables → Core → List ℕ → ℕ → List ℕ → Out → Out
+abbrev pub receiving : ChannelKind → Tables → Core → Area → ℕ → List ℕ → Out → Out
 receiving t k x a q g o =
     guard (usable k x q t (arg g 0) && ranged a (arg g 1) (arg g 2))
     (guard (is_source (port k (arg g 0)).direction) (refused x InvalidMode) o)
     (refused x InvalidParam)
 
 -- the message is copied to the range's front; the code is its length, a its time, b the number left
-abbrev pub delivered : Core → List ℕ → List ℕ → Letter → ℕ → Out
+abbrev pub delivered : Core → Area → List ℕ → Letter → ℕ → Out
 delivered x a g m n =
     record { core = x; effect = writes (patched a (arg g 1) m.bytes); reply = reply (pos (length m.bytes)) m.time n }
 
@@ -128,7 +117,7 @@ delivered x a g m n =
 abbrev pub holds : List ℕ → Letter → Bool
 holds g m = nat_le (length m.bytes) (arg g 2)
 
-abbrev pub sampled : Core → List ℕ → List ℕ → Option Letter → Out
+abbrev pub sampled : Core → Area → List ℕ → Option Letter → Out
 sampled x a g None = refused x NoAction
 sampled x a g (Some m) = guard (holds g m) (delivered x a g m 0) (refused x InvalidConfig)
 
@@ -140,7 +129,7 @@ read_sampling_message k x a q g = receiving Sampling k x a q g (sampled x a g (f
 abbrev pub left : Tables → Core → ℕ → List Letter
 left k x i = rest (queue k x i)
 
-abbrev pub taken : Tables → Core → List ℕ → List ℕ → Option Letter → Out
+abbrev pub taken : Tables → Core → Area → List ℕ → Option Letter → Out
 taken k x a g None = refused x NotAvailable
 taken k x a g (Some m) =
     guard (holds g m)

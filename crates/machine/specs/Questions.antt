@@ -1,23 +1,24 @@
 -- What the machine asks of the vector's tables.
 use Rattle.std.specs.Prelude.{ℕ, zero, suc, ◌+◌, Bool, true, false, cond, not, ◌&&◌, ◌||◌, List, [], ◌∷◌, take, Some, None, Option, ◌==◌, nat_le, nat_lt, slice_index_or}
-use Rattle.vector.specs.declared.tables.Tables.{Tables}
-use Rattle.vector.specs.declared.tables.PartitionRow.{PartitionRow}
-use Rattle.vector.specs.declared.tables.Plan.{Plan}
-use Rattle.vector.specs.declared.tables.Slot.{Slot}
-use Rattle.vector.specs.declared.tables.Response.{Response}
-use Rattle.vector.specs.declared.tables.Class.{Class}
-use Rattle.vector.specs.declared.tables.Class.TheVariants.{Standard, System}
-use Rattle.vector.specs.declared.tables.ChannelKind.{ChannelKind}
-use Rattle.vector.specs.declared.tables.ChannelKind.TheVariants.{Sampling, Queuing}
-use Rattle.vector.specs.declared.tables.Channel.{Channel}
-use Rattle.vector.specs.declared.tables.Direction.{Direction}
-use Rattle.vector.specs.declared.tables.Direction.TheVariants.{Source, Destination}
-use Rattle.vector.specs.declared.tables.Port.{Port}
-use Rattle.vector.specs.declared.tables.Name.{Name}
-use Rattle.vector.specs.Names.{same_name}
-use Rattle.vector.specs.Blank.{row0, response0}
-use Rattle.vector.specs.Laws.{plan_at}
-use Rattle.vector.specs.Fair.{port_at, channel_at}
+use Rattle.tables.specs.declared.Tables.{Tables}
+use Rattle.tables.specs.declared.partition.PartitionRow.{PartitionRow}
+use Rattle.tables.specs.declared.plan.Plan.{Plan}
+use Rattle.tables.specs.declared.plan.Slot.{Slot}
+use Rattle.tables.specs.declared.response.Response.{Response}
+use Rattle.tables.specs.declared.partition.Class.{Class}
+use Rattle.tables.specs.declared.partition.Class.TheVariants.{Standard, System}
+use Rattle.tables.specs.declared.channel.ChannelKind.{ChannelKind}
+use Rattle.tables.specs.declared.channel.ChannelKind.TheVariants.{Sampling, Queuing}
+use Rattle.tables.specs.declared.channel.Channel.{Channel}
+use Rattle.tables.specs.declared.port.Direction.{Direction}
+use Rattle.tables.specs.declared.port.Direction.TheVariants.{Source, Destination}
+use Rattle.tables.specs.declared.port.Port.{Port}
+use Rattle.tables.specs.declared.name.Name.{Name}
+use Rattle.tables.specs.Names.{same_name}
+use Rattle.tables.specs.Blank.{row0, response0}
+use Rattle.tables.specs.Laws.{plan_at}
+use Rattle.tables.specs.Fair.{port_at, channel_at}
+use Rattle.tables.specs.Tables.{Offset}
 
 -- has the vector a partition of this number
 abbrev pub exists : Tables → ℕ → Bool
@@ -33,11 +34,11 @@ abbrev pub slots_of : Plan → List Slot
 slots_of p = take p.slots.count p.slots.rows
 
 -- does the slot run at this offset of the frame
-abbrev pub covers : Slot → ℕ → Bool
+abbrev pub covers : Slot → Offset → Bool
 covers s o = nat_le s.start o && nat_lt o (s.start + s.duration)
 
 -- the partition whose slot runs at this offset of the frame, or nobody
-unfoldable pub holder : List Slot → ℕ → Option ℕ
+unfoldable pub holder : List Slot → Offset → Option ℕ
 holder [] o = None
 holder (s ∷ ss) o = cond (covers s o) (Some s.partition) (holder ss o)
 

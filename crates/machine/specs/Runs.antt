@@ -1,6 +1,6 @@
 -- A history of events: where it ends, and what each event was answered.
 use Rattle.std.specs.Prelude.{List, [], ◌∷◌, map}
-use Rattle.vector.specs.declared.tables.Tables.{Tables}
+use Rattle.tables.specs.declared.Tables.{Tables}
 use Rattle.machine.specs.declared.event.Event.{Event}
 use Rattle.machine.specs.declared.event.Exchange.{Exchange}
 use Rattle.machine.specs.declared.answer.Reply.{Reply}

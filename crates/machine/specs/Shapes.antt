@@ -1,7 +1,7 @@
 -- Which answer fits what was asked. Some answers have one code and one pair of values: their shapes tell them apart.
 use Rattle.std.specs.Prelude.{◌≡◌, ◌⊎◌, Result, Ok, Err, IfOk}
-use Rattle.vector.specs.declared.record.Scope.TheVariants.{System}
-use Rattle.vector.specs.declared.tables.Action.TheVariants.{Ignore}
+use Rattle.tables.specs.declared.response.Scope.TheVariants.{System}
+use Rattle.tables.specs.declared.response.Action.TheVariants.{Ignore}
 use Rattle.machine.specs.declared.partition.Status.TheVariants.{Ready}
 use Rattle.machine.specs.declared.log.Entry.{Entry}
 use Rattle.machine.specs.declared.answer.Refusal.{Refusal}

@@ -1,5 +1,6 @@
 -- The state of the machine, and what an event comes to.
-use Rattle.std.specs.Prelude.{ℕ, zero, suc, Bool, true, false, List, [], length, replicate, pos, slice_index_or, slice_set}
+use Rattle.std.specs.Prelude.{ℕ, zero, suc, Bool, true, false, List, pos, slice_index_or, slice_set}
+use Rattle.board.specs.Areas.{Area, wiped}
 use Rattle.machine.specs.declared.partition.Partition.{Partition}
 use Rattle.machine.specs.declared.clock.Clock.{Clock}
 use Rattle.machine.specs.declared.log.Entry.{Entry}
@@ -20,13 +21,13 @@ pub record Core : Type 0 where
 
 pub record State : Type 0 where
   pub core : Core
-  pub areas : List (List ℕ)
+  pub areas : List Area
 
 -- what an event does to the areas: nothing, a new content for the area of the partition whose event it is,
 -- or zeros in one partition's area, or in those of the first n partitions
 pub data Effect : Type 0 where
   keeps : Effect
-  writes : List ℕ → Effect
+  writes : Area → Effect
   clears : ℕ → Effect
   clears_all : ℕ → Effect
 
@@ -56,51 +57,44 @@ refused x r = record { core = x; effect = keeps; reply = reply (refusal_code r) 
 
 -- the same outcome under another answer
 abbrev pub replied : Reply → Out → Out
-replied r o = record { core = o.core; effect = o.effect; reply = r }
+replied r o = record o { reply = r }
 
 abbrev pub guard : Bool → Out → Out → Out
 guard true u v = u
 guard false u v = v
 
 abbrev pub with_clock : Core → Clock → Core
-with_clock x c = record { clock = c; halted = x.halted; parts = x.parts; chans = x.chans; log = x.log }
+with_clock x c = record x { clock = c }
 
 abbrev pub with_parts : Core → List Partition → Core
-with_parts x ps = record { clock = x.clock; halted = x.halted; parts = ps; chans = x.chans; log = x.log }
+with_parts x ps = record x { parts = ps }
 
 abbrev pub with_chans : Core → List (List Letter) → Core
-with_chans x cs = record { clock = x.clock; halted = x.halted; parts = x.parts; chans = cs; log = x.log }
+with_chans x cs = record x { chans = cs }
 
 -- one channel with other messages
 abbrev pub with_chan : Core → ℕ → List Letter → Core
 with_chan x c ms = with_chans x (slice_set x.chans c ms)
 
 abbrev pub with_log : Core → List Entry → Core
-with_log x es = record { clock = x.clock; halted = x.halted; parts = x.parts; chans = x.chans; log = es }
+with_log x es = record x { log = es }
 
 abbrev pub with_halted : Core → Bool → Core
-with_halted x b = record { clock = x.clock; halted = b; parts = x.parts; chans = x.chans; log = x.log }
+with_halted x b = record x { halted = b }
 
 -- one partition, changed by a function
 abbrev pub modify : List Partition → ℕ → (Partition → Partition) → List Partition
 modify ps q f = slice_set ps q (f (slice_index_or ps q nobody))
 
-abbrev pub area : List (List ℕ) → ℕ → List ℕ
-area ms q = slice_index_or ms q []
-
--- one area filled with zeros
-abbrev pub wiped : ℕ → List (List ℕ) → List (List ℕ)
-wiped q ms = slice_set ms q (replicate (length (area ms q)) 0)
-
 -- the first n areas filled with zeros
-unfoldable pub wiped_all : ℕ → List (List ℕ) → List (List ℕ)
+unfoldable pub wiped_all : ℕ → List Area → List Area
 wiped_all zero ms = ms
-wiped_all (suc n) ms = wiped n (wiped_all n ms)
+wiped_all (suc n) ms = wiped (wiped_all n ms) n
 
-abbrev pub applied : Effect → ℕ → List (List ℕ) → List (List ℕ)
+abbrev pub applied : Effect → ℕ → List Area → List Area
 applied keeps q ms = ms
 applied (writes a) q ms = slice_set ms q a
-applied (clears t) q ms = wiped t ms
+applied (clears t) q ms = wiped ms t
 applied (clears_all n) q ms = wiped_all n ms
 
 -- the one place where areas are written: the outcome of an event of partition q

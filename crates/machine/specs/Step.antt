@@ -1,14 +1,15 @@
 -- The machine: what one event does, and how a system boots.
 use Rattle.std.specs.Prelude.{ℕ, zero, suc, ◌-◌, Bool, true, not, ◌&&◌, List, [], length, replicate, pos, ◌==◌, nat_le, nat_lt, slice_index, slice_index_or, slice_set}
-use Rattle.vector.specs.declared.tables.Tables.{Tables}
+use Rattle.board.specs.Areas.{Area, area}
+use Rattle.tables.specs.declared.Tables.{Tables}
 use Rattle.machine.specs.declared.event.Event.{Event}
 use Rattle.machine.specs.declared.event.Event.TheVariants.{Tick, Call, Load, Store, Fault, Line, SystemFault}
 use Rattle.machine.specs.declared.answer.Refusal.TheVariants.{InvalidParam, OpNotAllowed, NotOnProcessor, SystemHalted}
 use Rattle.machine.specs.Partitions.{nobody, fresh, is_ready}
 use Rattle.machine.specs.Questions.{exists, row, plan, slots_of, holder, names}
-use Rattle.machine.specs.State.{Core, State, writes, Out, Stepped, answered, done, refused, guard, with_parts, with_clock, area, settle}
+use Rattle.machine.specs.State.{Core, State, writes, Out, Stepped, answered, done, refused, guard, with_parts, with_clock, settle}
 use Rattle.machine.specs.Answers.{reply}
-use Rattle.machine.specs.Time.{Timed, timed, clock_of, micros}
+use Rattle.machine.specs.Time.{Timed, timed, clock_of, micros, Time, farthest}
 use Rattle.machine.specs.Faults.{faulted, strayed, is_systems, system_faulted}
 use Rattle.machine.specs.Interrupts.{line}
 use Rattle.machine.specs.Calls.{called}
@@ -25,10 +26,10 @@ running k x q = exists k q && (turn k x q && is_ready (slice_index_or x.parts q 
 abbrev pub gate : Tables → Core → ℕ → Out → Out
 gate k x q o = guard (running k x q) o (refused x NotOnProcessor)
 
-abbrev pub load : Tables → Core → List ℕ → ℕ → ℕ → Out
+abbrev pub load : Tables → Core → Area → ℕ → ℕ → Out
 load k x a q o = guard (nat_lt o (length a)) (answered x (slice_index a o) 0) (strayed k x q)
 
-abbrev pub store : Tables → Core → List ℕ → ℕ → ℕ → ℕ → Out
+abbrev pub store : Tables → Core → Area → ℕ → ℕ → ℕ → Out
 store k x a q o v =
     guard (nat_lt o (length a)) (record { core = x; effect = writes (slice_set a o v); reply = reply (pos 0) 0 0 }) (strayed k x q)
 
@@ -43,13 +44,13 @@ abbrev pub with_timed : Core → Timed → Core
 with_timed x t = with_parts (with_clock x t.clock) t.parts
 
 -- n microseconds pass
-abbrev pub later : Tables → ℕ → Core → Core
+abbrev pub later : Tables → Time → Core → Core
 later k n x = with_timed x (micros k.plans n (timed x.clock x.parts))
 
--- a tick to t is t - now microseconds; t is not before now and at most 1,000,000 ahead
-abbrev pub tick : Tables → Core → ℕ → Out
+-- a tick to t is t - now microseconds; t is not before now, nor too far ahead
+abbrev pub tick : Tables → Core → Time → Out
 tick k x t =
-    guard (nat_le x.clock.time t && nat_le (t - x.clock.time) 1000000)
+    guard (nat_le x.clock.time t && nat_le (t - x.clock.time) farthest)
     (done (later k (t - x.clock.time) x))
     (refused x OpNotAllowed)
 
@@ -64,7 +65,7 @@ outcome k s (Line l) = line k s.core l
 outcome k s (SystemFault e) = system_fault k s.core e
 
 -- whose area an event may write; a tick, a line and a system fault write nobody's, and 0 is there a filler that nothing uses
--- (a cold reset of the system zeroes areas by their numbers)
+-- (a cold reset of the system zeroes areas by their numbers). Each sort has a line of its own: integrity rests on it
 abbrev pub author : Event → ℕ
 author (Tick t) = 0
 author (Call q n g) = q
@@ -79,15 +80,15 @@ abbrev pub step : Tables → State → Event → Stepped
 step k s e = settle s (author e) (guard s.core.halted (refused s.core SystemHalted) (outcome k s e))
 
 -- the first n partitions' areas have the vector's sizes
-unfoldable pub fits_below : Tables → List (List ℕ) → ℕ → Bool
+unfoldable pub fits_below : Tables → List Area → ℕ → Bool
 fits_below k ms zero = true
 fits_below k ms (suc n) = fits_below k ms n && length (area ms n) == (row k n).size
 
-abbrev pub fits : Tables → List (List ℕ) → Bool
+abbrev pub fits : Tables → List Area → Bool
 fits k ms = fits_below k ms k.partitions.count
 
 -- newly booted, on these areas; on a board that does not fit the system is halted
-abbrev pub boot : Tables → List (List ℕ) → State
+abbrev pub boot : Tables → List Area → State
 boot k ms =
     record {
       core = record { clock = clock_of 0 0 0 0; halted = not (fits k ms); parts = replicate 8 fresh; chans = replicate 8 []; log = [] };

@@ -5,7 +5,7 @@ ghost use Rattle.machine.specs.Answers.{refusal_code, status_number, reply, repl
 use crate::clock::Time;
 use crate::log::Entry;
 use crate::partition::Status;
-use vector::tables::Action;
+use tables::{Action, Offset};
 
 /// Why an event is refused.
 #[derive(Clone, Copy, Debug, PartialEq, Eq)]
@@ -48,12 +48,26 @@ pub enum Answer {
     Done,
     Time(Time),
     State(Status),
-    Plans { plan: u8, next: u8, slotless: Time },
+    Plans {
+        plan: u8,
+        next: u8,
+        slotless: Offset,
+    },
     Port(u8),
-    Received { length: u8, time: Time, left: u8 },
+    Received {
+        length: u8,
+        time: Time,
+        left: u8,
+    },
     Waiting(u8),
-    Words { pending: u32, mask: u32 },
-    Logged { left: u8, entry: Entry },
+    Words {
+        pending: u32,
+        mask: u32,
+    },
+    Logged {
+        left: u8,
+        entry: Entry,
+    },
     Byte(u8),
     Outside,
     Responded(Action),

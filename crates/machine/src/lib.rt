@@ -1,16 +1,9 @@
 //! The machine: its vocabulary in plain types, and in specs/ its rules and what is proved of them.
 #![tactic(auto)]
 
-ghost use Rattle.machine.specs.Examples.{ExamplesStand};
-
 pub mod answer;
 pub mod clock;
 pub mod event;
 pub mod log;
 pub mod message;
 pub mod partition;
-
-/// The worked examples of the rules stand.
-pub fn examples_stand()
-    ensures { ExamplesStand }
-{}

@@ -4,9 +4,8 @@ ghost use Rattle.machine.specs.Answers.{packed};
 ghost use Rattle.machine.specs.Packing.{Below, Telling, Unpacks};
 
 use crate::clock::Time;
-pub use vector::record::SYSTEM;
-use vector::record::Scope;
-use vector::tables::Action;
+pub use tables::SYSTEM;
+use tables::{Action, Scope};
 
 /// A fault event of a partition or of the system, and the action that was taken.
 #[derive(Clone, Copy, Debug, PartialEq, Eq)]

@@ -7,8 +7,8 @@ use crate::clock::Time;
 /// The longest message that any channel takes.
 pub const LONGEST: usize = 64;
 
-/// A message of `length` bytes, and when it was sent; the bytes past its length say nothing. The buffer keeps its length beside it, since
-/// a cell is fixed memory that is copied: no heap.
+/// A message of `length` bytes, and when it was sent; the bytes past its length say nothing. The buffer keeps its length
+/// beside it, since a cell is fixed memory that is copied: no heap.
 #[derive(Clone, Copy, Debug, PartialEq, Eq)]
 pub struct Message {
     pub bytes: [u8; 64],

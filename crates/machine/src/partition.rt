@@ -1,7 +1,7 @@
 // The record of a partition, and what can happen to it.
 ghost use Rattle.std.specs.Prelude.{◌≡◌, ◌<◌, Bool};
 ghost use Rattle.machine.specs.Answers.{status_number};
-ghost use Rattle.machine.specs.Partitions.{fresh, is_ready, is_idle, is_active, is_suspended, is_open, hidden, halted, suspended, resumed, idled, opened, masked, unmasked, acknowledged, signalled, woken};
+ghost use Rattle.machine.specs.Partitions.{fresh, is_ready, is_idle, is_active, is_suspended, is_open, hidden, halted, suspended, resumed, idled, opened, masked, unmasked, acknowledged, signalled, woken, slot_started};
 
 /// The state of a partition.
 #[derive(Clone, Copy, Debug, PartialEq, Eq)]
@@ -105,7 +105,8 @@ impl Partition {
         }
     }
 
-    // A port's number is a shift of a word here and in `open`; elsewhere its bound is that of a row, or of the tables' ports.
+    // A port's number is a shift of a word here and in `open`; elsewhere its bound is that of a row, or of the tables'
+    // ports.
     /// Whether the port of this number is open.
     pub fn is_open(&self, port: u8) -> bool
         requires { port < 32 }
@@ -164,9 +165,14 @@ impl Partition {
             return;
         }
         self.pending |= bits;
-        if !self.is_hidden() {
-            self.wake(true);
-        }
+        self.wake(!self.is_hidden());
+    }
+
+    /// What the start of its slot does to a partition: an IDLE one becomes READY.
+    pub fn start_slot(&mut self)
+        ensures { self.new ≡ slot_started self.old }
+    {
+        self.wake(true);
     }
 
     /// An idle partition becomes READY where it is due.

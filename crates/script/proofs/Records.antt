@@ -1,9 +1,11 @@
 -- The records one by one: what is read so far, and what the bytes that are left say.
-use Rattle.std.proofs.Common.{◌≡◌, ℕ, zero, suc, ◌+◌, List, [], ◌∷◌, ◌++◌, map, length, drop, Some, None, Option, sym, refl, ap, ◌∙◌, append_assoc, append-nil, arith, nat_eq, true, false, true-eqb, false-eqb}
+use Rattle.std.proofs.Common.{◌≡◌, ℕ, List, [], ◌∷◌, ◌++◌, map, length, Some, None, Option, sym, refl, ap, ◌∙◌, append_assoc, append-nil, arith, nat_eq, true, false, true-eqb}
 use Rattle.std.specs.Option.{option_map}
 use Rattle.machine.specs.declared.event.Event.{Event}
 use Rattle.machine.specs.declared.event.Exchange.{Exchange}
-use Rattle.script.specs.Format.{short_at, beyond, first, followed, events_after, events_of, unanswered, history_of}
+use Rattle.events.specs.Records.{beyond, first, followed, events_after, events_of}
+use Rattle.events.proofs.Records.{record_then}
+use Rattle.script.specs.Format.{unanswered, history_of}
 
 -- the history so far, and the rest of it
 abbrev pub joined : List Exchange → Option (List Exchange) → Option (List Exchange)
@@ -13,23 +15,6 @@ joined xs (Some ys) = Some (xs ++ ys)
 joined-one : (xs : List Exchange) (x : Exchange) (o : Option (List Exchange)) → joined (xs ++ x ∷ []) o ≡ joined xs (joined (x ∷ []) o)
 joined-one xs x None = refl
 joined-one xs x (Some ys) = ap Some (append_assoc xs (x ∷ []) ys)
-
-skipped : (k : ℕ) (bs : List ℕ) → events_after k bs ≡ events_of (drop k bs)
-unfolding events_after
-skipped zero bs = refl
-skipped (suc k) [] = refl
-skipped (suc k) (b ∷ bs) = skipped k bs
-
-pub drop_more : (n b : ℕ) (bs : List ℕ) → drop (3 + n) bs ≡ drop (4 + n) (b ∷ bs)
-drop_more n b bs = let e : suc (3 + n) ≡ 4 + n = omega arith in ap (λ k. drop k (b ∷ bs)) e
-
--- a record, and those after it
-record_then : (bs : List ℕ) → false ≡ nat_eq (length bs) 0 → events_of bs ≡ followed (first bs) (events_of (beyond 4 bs))
-unfolding events_after
-record_then [] h = absurd (omega (arith, false-eqb 0 0 h))
-record_then (b ∷ bs) h =
-    let n = short_at (b ∷ bs) 0 in
-    ap (followed (first (b ∷ bs))) (skipped (3 + n) bs ∙ ap events_of (drop_more n b bs))
 
 pub at_end : (xs : List Exchange) (bs : List ℕ) → true ≡ nat_eq (length bs) 0 → joined xs (history_of bs) ≡ Some xs
 unfolding events_after

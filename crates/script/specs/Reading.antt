@@ -2,17 +2,11 @@
 use Rattle.std.specs.Prelude.{◌≡◌, ℕ, true, false, List, Some, None, Ok, Err, vec_items, Option, Result, Vec}
 use Rattle.std.specs.declared.alloc.Global.{Global}
 use Rattle.machine.specs.declared.event.Exchange.{Exchange}
-use Rattle.script.specs.Format.{beyond, first, opens, vector_of, records_of, history_of, saying, said}
+use Rattle.script.specs.Format.{opens, vector_of, records_of, history_of, saying, said}
 use Rattle.script.specs.declared.Script.{Script}
-use Rattle.script.specs.declared.record.Cut.{Cut}
 use Rattle.script.specs.declared.opening.Opening.{Opening}
 use Rattle.script.specs.declared.error.ScriptError.{ScriptError}
 use Rattle.script.specs.declared.error.ScriptError.TheVariants.{Malformed, OutOfMemory}
-
--- a record is cut off with its event, and what comes after it is the rest
-abbrev pub Splits : List ℕ → Option Cut → Type 0
-Splits bs None = first bs ≡ None
-Splits bs (Some c) = (first bs ≡ Some c.event) × (c.rest.now ≡ beyond 4 bs)
 
 -- a script falls into its vector and its records
 abbrev pub Divides : List ℕ → Option Opening → Type 0

@@ -2,7 +2,7 @@
 ghost use Rattle.script.specs.Reading.{Lists};
 
 use crate::error::ScriptError;
-use crate::record::next_event;
+use events::next_event;
 use machine::answer::Answer;
 use machine::event::Exchange;
 use std::alloc::Global;

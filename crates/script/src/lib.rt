@@ -9,17 +9,12 @@ use crate::opening::divide;
 use machine::event::Exchange;
 use std::alloc::Global;
 
-pub(crate) mod body;
 pub mod error;
 pub(crate) mod history;
-pub(crate) mod kind;
 pub mod line;
 pub(crate) mod opening;
-pub(crate) mod record;
 #[cfg(test)]
 mod tests;
-
-pub use record::{Cut, next_event};
 
 /// The bytes of the vector, not looked at yet, and the events, each with the answer Done.
 #[derive(Drop)]

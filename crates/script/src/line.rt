@@ -4,7 +4,7 @@ ghost use Rattle.script.specs.Lines.{text, refused_text};
 
 use machine::answer::{Outcome, Reply};
 use std::fmt;
-use vector::fault::Refusal;
+use vector::refusal::Refusal;
 
 /// An outcome as a line shows it: its code and its two values.
 #[derive(Clone, Copy)]

@@ -6,8 +6,8 @@ use Rattle.std.proofs.lemmas.List.{take_more_set, take-append-le, take_all}
 use Rattle.std.proofs.Math.Bool.{or-false, or_comm}
 use Rattle.std.proofs.lemmas.List.Folds.{list_any-append}
 use Rattle.std.proofs.lemmas.Bool.{and_parts, eqb-true, cases_Bool, both_ways}
-use Rattle.vector.specs.Names.{any, padded, same_name}
-use Rattle.vector.proofs.FitPartitions.{same-name}
+use Rattle.tables.specs.Names.{any, padded, same_name}
+use Rattle.tables.proofs.Names.{same-name}
 
 module _ {A : Type 0} (test : A → Bool) where
   pub any_more : (xs : List A) (n : ℕ) (v : A) → n < length xs → any test (take (n + 1) (set xs n v)) ≡ (test v || any test (take n xs))

@@ -4,9 +4,10 @@ use Rattle.std.proofs.lemmas.Bool.{le-ltb, ltb-false}
 use Rattle.vector.specs.Reasons.{past_end, wrong_length}
 use Rattle.vector.specs.Encoding.{Bytes, two}
 use Rattle.vector.specs.Out.{fine, bad, then}
-use Rattle.vector.specs.Frames.{word16, suits, kind_of, cut_at, Framed, framed}
+use Rattle.frame.specs.Frames.{word16}
+use Rattle.vector.specs.Frames.{suits, kind_of, cut_at, Framed, framed}
 use Rattle.vector.specs.Turns.{kind_number}
-use Rattle.vector.specs.declared.record.Kind.{Kind}
+use Rattle.vector.specs.declared.kind.Kind.{Kind}
 use Rattle.vector.proofs.Numbers.{kind-number, two_of, open_4}
 use Rattle.vector.proofs.Outs.{then-fine, cond-fine, cond-bad}
 

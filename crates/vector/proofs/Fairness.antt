@@ -2,20 +2,20 @@
 use Rattle.std.proofs.Common.{◌≡◌, ℕ, zero, suc, ◌<◌, ◌≤◌, true, cond, eqb, List, [], ◌∷◌, length, get_or, take, sym, ap, ◌∙◌, subst, inl, inr, arith}
 use Rattle.std.proofs.lemmas.List.{get_or-take, length-take}
 use Rattle.std.proofs.lemmas.Bool.{cases_order, cond-true, eq-eqb}
-use Rattle.vector.specs.Blank.{port0}
-use Rattle.vector.specs.Fair.{AllWithin, Connected, OneSource, OneDestination, Fair}
-use Rattle.vector.specs.Joins.{is_queuing}
-use Rattle.vector.specs.Laws as laws
-use Rattle.vector.specs.Laws.{ports_of, Lawful, Kept}
+use Rattle.tables.specs.Blank.{port0}
+use Rattle.tables.specs.Fair.{AllWithin, Connected, OneSource, OneDestination, Fair}
+use Rattle.tables.specs.Rows.{is_queuing}
+use Rattle.tables.specs.Laws as laws
+use Rattle.tables.specs.Laws.{ports_of, Lawful, Kept}
 use Rattle.vector.specs.Out.{fine}
 use Rattle.vector.specs.Reading.{reading, takes, tables}
 use Rattle.vector.specs.declared.sofar.Sofar.{Sofar}
-use Rattle.vector.specs.declared.tables.ChannelKind.{ChannelKind}
-use Rattle.vector.specs.declared.tables.ChannelKind.TheVariants.{Queuing}
-use Rattle.vector.specs.declared.tables.Direction.{Direction}
-use Rattle.vector.specs.declared.tables.Direction.TheVariants.{Source, Destination}
-use Rattle.vector.specs.declared.tables.Port.{Port}
-use Rattle.vector.specs.declared.tables.Tables.{Tables}
+use Rattle.tables.specs.declared.channel.ChannelKind.{ChannelKind}
+use Rattle.tables.specs.declared.channel.ChannelKind.TheVariants.{Queuing}
+use Rattle.tables.specs.declared.port.Direction.{Direction}
+use Rattle.tables.specs.declared.port.Direction.TheVariants.{Source, Destination}
+use Rattle.tables.specs.declared.port.Port.{Port}
+use Rattle.tables.specs.declared.Tables.{Tables}
 use Rattle.vector.proofs.Keeps.{taken-keeps}
 use Rattle.vector.proofs.Fits.{Fit, fit-kept, fit-nothing}
 use Rattle.vector.proofs.Laws.{read-lawful, taken-read}

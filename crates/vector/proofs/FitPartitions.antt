@@ -1,24 +1,18 @@
 -- The partitions of the records so far: their names differ, their areas have their sizes, and their links go to others.
-use Rattle.std.proofs.Common.{◌≡◌, ℕ, ◌+◌, ◌<◌, true, false, eqb, List, length, get_or, take, set, replicate, Some, None, Option, sym, refl, ap, ◌∙◌, subst, arith}
-use Rattle.std.specs.Str.{bytes_eq}
-use Rattle.std.proofs.lemmas.Slice.Eq.{bytes_eq-Decides}
+use Rattle.std.proofs.Common.{◌≡◌, ℕ, ◌+◌, ◌<◌, false, List, length, get_or, take, set, replicate, Some, None, Option, sym, refl, ◌∙◌, subst, arith}
 use Rattle.std.proofs.lemmas.List.{length-set}
-use Rattle.std.proofs.lemmas.Bool.{and_from, eq-eqb, both_ways}
-use Rattle.vector.specs.Blank.{row0}
-use Rattle.vector.specs.Names.{has_name, named, same_name}
-use Rattle.vector.specs.Ranges.{In, Mask}
-use Rattle.vector.specs.Rows.{linked, answering}
-use Rattle.vector.specs.declared.tables.Name.{Name}
-use Rattle.vector.specs.declared.tables.PartitionRow.{PartitionRow}
-use Rattle.vector.specs.Tables.{Partitions}
-use Rattle.vector.specs.declared.tables.Response.{Response}
-use Rattle.vector.proofs.Lists.{one_more, replaced, all_alike, pairs_more, same-part, none_passes}
-
-pub same-name : (a b : Name) → a ≡ b → same_name a b ≡ true
-same-name a b q =
-    let l : eqb a.length b.length ≡ true = eq-eqb _ _ (ap (λ (n : Name). n.length) q) in
-    let t : bytes_eq a.bytes b.bytes ≡ true = (bytes_eq-Decides a.bytes b.bytes).1 (ap (λ (n : Name). n.bytes) q) in
-    and_from (eqb a.length b.length) (bytes_eq a.bytes b.bytes) l t
+use Rattle.std.proofs.lemmas.Bool.{both_ways}
+use Rattle.tables.specs.Blank.{row0}
+use Rattle.tables.specs.Names.{has_name, named}
+use Rattle.tables.specs.Laws.{In}
+use Rattle.vector.specs.Ranges.{Mask}
+use Rattle.tables.specs.Rows.{linked, answering}
+use Rattle.tables.specs.declared.name.Name.{Name}
+use Rattle.tables.specs.declared.partition.PartitionRow.{PartitionRow}
+use Rattle.tables.specs.Tables.{Partitions}
+use Rattle.tables.specs.declared.response.Response.{Response}
+use Rattle.tables.proofs.Names.{same-name}
+use Rattle.tables.proofs.Lists.{one_more, replaced, all_alike, pairs_more, same-part, none_passes}
 
 abbrev Apart : PartitionRow → PartitionRow → Type 0
 Apart a b = a.name ≡ b.name → ⊥

@@ -2,14 +2,13 @@
 use Rattle.std.proofs.Common.{◌≡◌, ℕ, ◌+◌, ◌-◌, ◌<◌, ◌≤◌, eqb, length, get_or, set, sym, refl, ◌∙◌, subst, inl, inr, arith, get_or-set_other, get_or-set_same}
 use Rattle.std.proofs.lemmas.List.{length-set}
 use Rattle.std.proofs.lemmas.Bool.{cases_eq, ne_eqb, cond-false}
-use Rattle.vector.specs.Blank.{slot0, plan0}
-use Rattle.vector.specs.Laws.{slot_at, SlotInPlace}
-use Rattle.vector.specs.Ranges.{In}
-use Rattle.vector.specs.Rows.{plan_with, placed, end_of, slot_end}
-use Rattle.vector.specs.declared.tables.Plan.{Plan}
-use Rattle.vector.specs.Tables.{Plans}
-use Rattle.vector.specs.declared.tables.Slot.{Slot}
-use Rattle.vector.proofs.Lists.{one_more, replaced}
+use Rattle.tables.specs.Blank.{slot0, plan0}
+use Rattle.tables.specs.Laws.{slot_at, SlotInPlace, In}
+use Rattle.tables.specs.Rows.{plan_with, placed, end_of, slot_end}
+use Rattle.tables.specs.declared.plan.Plan.{Plan}
+use Rattle.tables.specs.Tables.{Plans}
+use Rattle.tables.specs.declared.plan.Slot.{Slot}
+use Rattle.tables.proofs.Lists.{one_more, replaced}
 
 pub record FitPlan (n : ℕ) (p : Plan) : Type 0 where
   pub frame : In 1 1000000 p.frame

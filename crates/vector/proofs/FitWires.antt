@@ -2,20 +2,20 @@
 use Rattle.std.proofs.Common.{◌≡◌, ℕ, zero, suc, ◌+◌, ◌-◌, ◌<◌, ◌≤◌, true, false, cond, ◌&&◌, ◌||◌, eqb, leb, List, [], ◌∷◌, ◌++◌, length, get_or, take, set, sym, refl, ap, ◌∙◌, subst, inl, inr, arith, get_or-set_other, get_or-set_same}
 use Rattle.std.proofs.lemmas.List.{length-set, take_more_set}
 use Rattle.std.proofs.lemmas.Bool.{and_from, or_left, or_right, or_parts, and_cases, eq-eqb, ne_eqb, leb-false, cond-true, cond-false, cases_eq, both_ways}
-use Rattle.vector.specs.Blank.{channel0, port0}
-use Rattle.vector.specs.Sound.{SoundChannel}
+use Rattle.tables.specs.Blank.{channel0, port0}
+use Rattle.tables.specs.Sound.{SoundChannel}
 use Rattle.vector.specs.Bodies.{next_direction}
-use Rattle.vector.specs.Joins.{is_queuing, is_full}
-use Rattle.vector.specs.Laws.{channel_at, port_at, ports_of}
-use Rattle.vector.specs.Names.{same_name, clash, clashes}
-use Rattle.vector.specs.Rows.{open_channel, ported, add_channel, add_port}
-use Rattle.vector.specs.declared.tables.Channel.{Channel}
-use Rattle.vector.specs.Tables.{Channels, Ports}
-use Rattle.vector.specs.declared.tables.Direction.TheVariants.{Source, Destination}
-use Rattle.vector.specs.declared.tables.Port.{Port}
-use Rattle.vector.specs.declared.tables.Tables.{Tables}
-use Rattle.vector.proofs.Lists.{one_more, replaced, changed, pairs_more, none_passes}
-use Rattle.vector.proofs.FitPartitions.{same-name}
+use Rattle.tables.specs.Rows.{is_queuing, open_channel, ported, add_channel, add_port}
+use Rattle.vector.specs.Joins.{is_full}
+use Rattle.tables.specs.Laws.{channel_at, port_at, ports_of}
+use Rattle.tables.specs.Names.{same_name, clash, clashes}
+use Rattle.tables.specs.declared.channel.Channel.{Channel}
+use Rattle.tables.specs.Tables.{Channels, Ports}
+use Rattle.tables.specs.declared.port.Direction.TheVariants.{Source, Destination}
+use Rattle.tables.specs.declared.port.Port.{Port}
+use Rattle.tables.specs.declared.Tables.{Tables}
+use Rattle.tables.proofs.Lists.{one_more, replaced, changed, pairs_more, none_passes}
+use Rattle.tables.proofs.Names.{same-name}
 
 -- counting the ports of a channel
 

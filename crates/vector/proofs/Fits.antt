@@ -1,28 +1,28 @@
 -- What the records so far have put into the tables is sound and lawful.
 use Rattle.std.proofs.Common.{◌≡◌, ℕ, ◌+◌, ◌-◌, ◌<◌, ◌≤◌, true, false, ◌&&◌, eqb, leb, ◌⊎◌, length, get_or, set, is_some, Some, None, Option, sym, refl, subst, inl, inr, arith, get_or-set_other, get_or-set_same}
 use Rattle.std.proofs.lemmas.Bool.{and_parts, or_parts, or_cases, leb-true, leb-false, ltb-true, eqb-true, false≢true, both_ways, cases_eq}
-use Rattle.vector.specs.Blank.{plan0, row0}
+use Rattle.tables.specs.Blank.{plan0, row0}
 use Rattle.vector.specs.Fields.{deepest}
 use Rattle.vector.specs.Bodies.{Said, header, partition, plan, slot, channel, port, ipvi, line, action}
-use Rattle.vector.specs.Names.{padded}
-use Rattle.vector.specs.Rows.{row_of, no_name, plan_with, channel_with, open_plan, open_channel, placed}
+use Rattle.tables.specs.Names.{padded}
+use Rattle.tables.specs.Rows.{row_of, no_name, plan_with, channel_with, open_plan, open_channel, placed, is_queuing}
 use Rattle.vector.specs.Ranges.{Mask}
 use Rattle.vector.specs.Rooms.{Room}
 use Rattle.vector.specs.Sofars.{nothing, with_header}
 use Rattle.vector.specs.Turns.{leads, follows, has_plans, has_ports, in_turn}
-use Rattle.vector.specs.Joins.{is_full, is_queuing}
-use Rattle.vector.specs.declared.record.Kind.{Kind}
-use Rattle.vector.specs.declared.record.Kind.TheVariants.{Header, Partition, Plan, Slot, Channel, Port, Ipvi, Line, Action}
-use Rattle.vector.specs.declared.record.Scope.TheVariants as scopes
+use Rattle.vector.specs.Joins.{is_full}
+use Rattle.vector.specs.declared.kind.Kind.{Kind}
+use Rattle.vector.specs.declared.kind.Kind.TheVariants.{Header, Partition, Plan, Slot, Channel, Port, Ipvi, Line, Action}
+use Rattle.tables.specs.declared.response.Scope.TheVariants as scopes
 use Rattle.vector.specs.declared.sofar.Sofar.{Sofar}
-use Rattle.vector.specs.declared.tables.ChannelKind.{ChannelKind}
-use Rattle.vector.specs.declared.tables.ChannelKind.TheVariants.{Sampling, Queuing}
-use Rattle.vector.specs.declared.tables.Class.TheVariants.{Standard}
-use Rattle.vector.specs.declared.tables.PartitionRow.{PartitionRow}
-use Rattle.vector.specs.declared.tables.Plan as plans
-use Rattle.vector.specs.Tables.{Plans}
-use Rattle.vector.specs.declared.tables.Slot as slots
-use Rattle.vector.proofs.Lists.{replaced, all_alike}
+use Rattle.tables.specs.declared.channel.ChannelKind.{ChannelKind}
+use Rattle.tables.specs.declared.channel.ChannelKind.TheVariants.{Sampling, Queuing}
+use Rattle.tables.specs.declared.partition.Class.TheVariants.{Standard}
+use Rattle.tables.specs.declared.partition.PartitionRow.{PartitionRow}
+use Rattle.tables.specs.declared.plan.Plan as plans
+use Rattle.tables.specs.Tables.{Plans}
+use Rattle.tables.specs.declared.plan.Slot as slots
+use Rattle.tables.proofs.Lists.{replaced, all_alike}
 use Rattle.vector.proofs.Told.{Told}
 use Rattle.vector.proofs.Joined.{after, Related, port_in}
 use Rattle.vector.proofs.Rooms.{in_turn_lem, first-none}

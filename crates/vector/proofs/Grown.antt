@@ -2,19 +2,20 @@
 use Rattle.std.proofs.Common.{◌≡◌, ℕ, ◌-◌, ◌≤◌, true, false, List, [], ◌∷◌, ◌++◌, length, get_or, Some, Option, sym, refl, ap, ◌∙◌, subst, arith}
 use Rattle.std.proofs.lemmas.Bool.{and_parts, leb-true, false≢true, both_ways}
 use Rattle.vector.specs.Bodies.{Said, NameAt, next_direction, header, partition, plan, slot, channel, port, ipvi, line, action}
-use Rattle.vector.specs.Blank.{channel0}
+use Rattle.tables.specs.Blank.{channel0}
 use Rattle.vector.specs.Config.{said_slot, said_link, said_line, said_action, PartitionIn, PlanIn, PortIn, ChannelIn, LinkIn, LineIn, ActionIn, Config, Each, PartitionRule, PlanRule, ChannelRule, LinkRule, LineRule, ActionRule, HasSlot, HasPorts, said_channel, encode}
 use Rattle.vector.specs.Encoding.{bytes_of}
-use Rattle.vector.specs.Ranges.{In, kind_said, Ranged}
+use Rattle.tables.specs.Laws.{In}
+use Rattle.vector.specs.Ranges.{kind_said, Ranged}
 use Rattle.vector.specs.Rooms.{Room}
 use Rattle.vector.specs.Turns.{follows, ready, has_plans, has_ports, in_turn}
-use Rattle.vector.specs.declared.record.Kind.{Kind}
-use Rattle.vector.specs.declared.record.Kind.TheVariants.{Partition, Plan, Slot, Channel, Port, Ipvi}
+use Rattle.vector.specs.declared.kind.Kind.{Kind}
+use Rattle.vector.specs.declared.kind.Kind.TheVariants.{Partition, Plan, Slot, Channel, Port, Ipvi}
 use Rattle.vector.specs.declared.sofar.Sofar.{Sofar}
-use Rattle.vector.specs.Tables.{Channels, Ports}
-use Rattle.vector.specs.declared.tables.Class.{Class}
-use Rattle.vector.specs.declared.tables.Direction.{Direction}
-use Rattle.vector.specs.declared.tables.Slot as slots
+use Rattle.tables.specs.Tables.{Channels, Ports}
+use Rattle.tables.specs.declared.partition.Class.{Class}
+use Rattle.tables.specs.declared.port.Direction.{Direction}
+use Rattle.tables.specs.declared.plan.Slot as slots
 use Rattle.vector.proofs.Told.{Told}
 use Rattle.vector.proofs.Joined.{after, Related}
 use Rattle.vector.proofs.Rooms.{in_turn_lem}

@@ -9,7 +9,7 @@ use Rattle.vector.specs.Turns.{in_turn, turned}
 use Rattle.vector.specs.Joins.{joined, Ready}
 use Rattle.vector.specs.Rooms.{Room}
 use Rattle.vector.specs.Reading.{heard}
-use Rattle.vector.specs.declared.record.Kind.{Kind}
+use Rattle.vector.specs.declared.kind.Kind.{Kind}
 use Rattle.vector.specs.declared.sofar.Sofar.{Sofar}
 use Rattle.vector.proofs.Outs.{pass-fine, cond-fine}
 use Rattle.vector.proofs.Told.{Told, told}

@@ -3,17 +3,17 @@ use Rattle.std.proofs.Common.{◌≡◌, ℕ, ◌-◌, ◌<◌, ◌≤◌, Bool,
 use Rattle.std.proofs.lemmas.Bool.{and_parts, and_from, leb-true, leb-false, le-leb, lt-leb, cond-true, cond-false}
 use Rattle.vector.specs.Reasons.{Reason, too_many, repeated, misplaced}
 use Rattle.vector.specs.Out.{Out, fine, bad, pass}
-use Rattle.vector.specs.Names.{padded, named, clashes}
+use Rattle.tables.specs.Names.{padded, named, clashes}
 use Rattle.vector.specs.Bodies.{Said, NameAt, header, partition, plan, slot, channel, port, ipvi, line, action}
-use Rattle.vector.specs.Rows.{row_of, channel_with, open_plan, end_of, slot_end, partition_at, add_partition, add_plan, add_slot, add_channel, add_port, add_link, add_line}
+use Rattle.tables.specs.Rows.{row_of, channel_with, open_plan, end_of, slot_end, partition_at, add_partition, add_plan, add_slot, add_channel, add_port, add_link, add_line, respond}
 use Rattle.vector.specs.Sofars.{with_header, with_tables, with_given, is_given, giving}
-use Rattle.vector.specs.Joins.{joined, admitted, is_full, respond}
-use Rattle.vector.specs.declared.record.Kind.TheVariants.{Partition, Plan, Slot, Channel, Port, Ipvi, Line, Action}
+use Rattle.vector.specs.Joins.{joined, admitted, is_full}
+use Rattle.vector.specs.declared.kind.Kind.TheVariants.{Partition, Plan, Slot, Channel, Port, Ipvi, Line, Action}
 use Rattle.vector.specs.declared.sofar.Sofar.{Sofar}
-use Rattle.vector.specs.declared.tables.Direction.{Direction}
-use Rattle.vector.specs.declared.tables.Plan as plans
-use Rattle.vector.specs.declared.tables.Port as ports
-use Rattle.vector.specs.declared.tables.Slot as slots
+use Rattle.tables.specs.declared.port.Direction.{Direction}
+use Rattle.tables.specs.declared.plan.Plan as plans
+use Rattle.tables.specs.declared.port.Port as ports
+use Rattle.tables.specs.declared.plan.Slot as slots
 use Rattle.vector.proofs.Outs.{pass-fine, cond-fine, cond-bad}
 
 -- the port of a record, of the channel that was added last

@@ -1,21 +1,21 @@
 -- What each record keeps holds of every vector that is taken.
 use Rattle.std.proofs.Common.{◌≡◌, ℕ, zero, suc, ◌+◌, ◌≤◌, true, List, [], ◌∷◌, length, refl, subst, arith}
-use Rattle.vector.specs.Blank.{channel0}
+use Rattle.tables.specs.Blank.{channel0}
 use Rattle.vector.specs.Reasons.{owed}
 use Rattle.vector.specs.Out.{fine, then}
 use Rattle.vector.specs.Frames.{framed}
 use Rattle.vector.specs.Bodies.{Said}
-use Rattle.vector.specs.Rows.{channel_with}
+use Rattle.tables.specs.Rows.{channel_with}
 use Rattle.vector.specs.Sofars.{nothing}
 use Rattle.vector.specs.Turns.{in_turn, settled}
 use Rattle.vector.specs.Joins.{joined}
 use Rattle.vector.specs.Rooms.{Room}
 use Rattle.vector.specs.Reading.{read_on, heard, followed, reading}
-use Rattle.vector.specs.declared.record.Kind.{Kind}
+use Rattle.vector.specs.declared.kind.Kind.{Kind}
 use Rattle.vector.specs.declared.sofar.Sofar.{Sofar}
-use Rattle.vector.specs.declared.tables.Channel.{Channel}
-use Rattle.vector.specs.declared.tables.ChannelKind.TheVariants.{Sampling}
-use Rattle.vector.proofs.Lists.{all_alike}
+use Rattle.tables.specs.declared.channel.Channel.{Channel}
+use Rattle.tables.specs.declared.channel.ChannelKind.TheVariants.{Sampling}
+use Rattle.tables.proofs.Lists.{all_alike}
 use Rattle.vector.proofs.Outs.{then-fine, cond-fine}
 use Rattle.vector.proofs.Cuts.{cut_off}
 use Rattle.vector.proofs.Told.{Told}

@@ -3,17 +3,17 @@ use Rattle.std.proofs.Common.{◌≡◌, ℕ, ◌+◌, ◌-◌, ◌/◌, ◌%◌
 use Rattle.std.proofs.lemmas.Nat.{pow_pos, pow_below, div_below}
 use Rattle.std.proofs.lemmas.Bool.{and_parts, eqb-true, false≢true, cases_lt, cases_eq, both_ways}
 use Rattle.vector.specs.Out.{Out, fine, bad, then}
-use Rattle.vector.specs.Fields.{has_bit}
-use Rattle.vector.specs.Laws.{channel_at, plan_at, SlotInPlace, Lawful}
+use Rattle.tables.specs.Bits.{has_bit}
+use Rattle.tables.specs.Laws.{channel_at, plan_at, SlotInPlace, Lawful}
 use Rattle.vector.specs.Ranges.{Mask}
-use Rattle.vector.specs.Rows.{blank}
-use Rattle.vector.specs.Sound.{SoundPlan, Sound}
+use Rattle.tables.specs.Rows.{blank}
+use Rattle.tables.specs.Sound.{SoundPlan, Sound}
 use Rattle.vector.specs.Turns.{ends, has_partitions, has_plans, has_ports, settled}
 use Rattle.vector.specs.Rooms.{Room}
 use Rattle.vector.specs.Reading.{reading, verdict_of, taken, refused, takes, tables}
-use Rattle.vector.specs.declared.record.Kind.{Kind}
+use Rattle.vector.specs.declared.kind.Kind.{Kind}
 use Rattle.vector.specs.declared.sofar.Sofar.{Sofar}
-use Rattle.vector.specs.declared.tables.Plan as plans
+use Rattle.tables.specs.declared.plan.Plan as plans
 use Rattle.vector.proofs.Keeps.{taken-keeps}
 use Rattle.vector.proofs.FitPlans.{FitPlan}
 use Rattle.vector.proofs.Fits.{Fit, two-ports, fit-kept, fit-nothing}

@@ -1,5 +1,4 @@
 pub mod Outs
-pub mod Lists
 pub mod Numbers
 pub mod Cuts
 pub mod Told

@@ -1,24 +1,24 @@
 -- Numbers as they stand in bytes, read and written.
-use Rattle.std.proofs.Common.{◌≡◌, ℕ, ◌+◌, ◌*◌, ◌/◌, ◌%◌, ◌<◌, ◌≤◌, Bool, true, false, cond, eqb, ltb, List, [], ◌∷◌, ◌++◌, length, get_or, drop, refl, ap, ◌∙◌, ap₂, arith, drop-cons}
+use Rattle.std.proofs.Common.{◌≡◌, ℕ, ◌+◌, ◌*◌, ◌/◌, ◌%◌, ◌<◌, ◌≤◌, Bool, true, false, cond, eqb, ltb, List, [], ◌∷◌, ◌++◌, length, get_or, drop, Some, None, Option, refl, ap, ◌∙◌, ap₂, arith, drop-cons}
 use Rattle.std.proofs.lemmas.Bool.{eqb-true}
 use Rattle.vector.specs.Reasons.{Reason, unknown_kind, out_of_range}
 use Rattle.vector.specs.Out.{Out, fine, bad}
 use Rattle.vector.specs.Frames.{kind_of}
 use Rattle.vector.specs.Turns.{kind_number}
-use Rattle.vector.specs.Fields.{class_of, channel_kind_of, scope_of, action_of, later_action, flag_of, direction_number, directed}
-use Rattle.vector.specs.Encoding.{two, four, class_number, channel_number, scope_number, action_number, flag_number}
-use Rattle.vector.specs.declared.record.Kind.{Kind}
-use Rattle.vector.specs.declared.record.Kind.TheVariants as kinds
-use Rattle.vector.specs.declared.record.Scope.{Scope}
-use Rattle.vector.specs.declared.record.Scope.TheVariants as scopes
-use Rattle.vector.specs.declared.tables.Action.{Action}
-use Rattle.vector.specs.declared.tables.Action.TheVariants.{Ignore, Signal, Suspend, Halt, WarmReset, ColdReset}
-use Rattle.vector.specs.declared.tables.ChannelKind.{ChannelKind}
-use Rattle.vector.specs.declared.tables.ChannelKind.TheVariants.{Sampling, Queuing}
-use Rattle.vector.specs.declared.tables.Class.{Class}
-use Rattle.vector.specs.declared.tables.Class.TheVariants.{Standard, System}
-use Rattle.vector.specs.declared.tables.Direction.{Direction}
-use Rattle.vector.proofs.Outs.{cond-fine}
+use Rattle.vector.specs.Fields.{standing, class_of, channel_kind_of, scope_of, any_action, systems, action_of, flag_of, directed}
+use Rattle.tables.specs.Numbers.{direction_number, class_number, channel_number, scope_number, action_number}
+use Rattle.vector.specs.Encoding.{two, four, flag_number}
+use Rattle.vector.specs.declared.kind.Kind.{Kind}
+use Rattle.vector.specs.declared.kind.Kind.TheVariants as kinds
+use Rattle.tables.specs.declared.response.Scope.{Scope}
+use Rattle.tables.specs.declared.response.Scope.TheVariants as scopes
+use Rattle.tables.specs.declared.response.Action.{Action}
+use Rattle.tables.specs.declared.response.Action.TheVariants.{Ignore, Signal, Suspend, Halt, WarmReset, ColdReset}
+use Rattle.tables.specs.declared.channel.ChannelKind.{ChannelKind}
+use Rattle.tables.specs.declared.partition.Class.{Class}
+use Rattle.tables.specs.declared.port.Direction.{Direction}
+use Rattle.tables.proofs.Numbers.{class_by-number, channel_kind_by-number, action_by-number}
+use Rattle.vector.proofs.Outs.{cond-fine, then-fine}
 
 -- a choice by tests gives a value with a number, if each test tells the number
 module _ {X : Type 0} (number : X → ℕ) (v : ℕ) (x : X) where
@@ -30,12 +30,26 @@ module _ {X : Type 0} (number : X → ℕ) (v : ℕ) (x : X) where
   choice true y o n m e = let q : y ≡ x = cc in n refl ∙ ap number q
   choice false y o n m e = m e
 
+module _ {X : Type 0} where
+  standing-some : (at : ℕ) (o : Option X) (x : X) → standing at o ≡ fine x → o ≡ Some x
+  standing-some at None x e = absurd cc
+  standing-some at (Some y) x e = let q : y ≡ x = cc in ap Some q
+
+-- what the system may be given is given as it is
+systems-same : (at : ℕ) (a b : Action) → systems at a ≡ fine b → a ≡ b
+systems-same at Ignore b e = cc
+systems-same at Signal b e = absurd cc
+systems-same at Suspend b e = absurd cc
+systems-same at Halt b e = cc
+systems-same at WarmReset b e = cc
+systems-same at ColdReset b e = cc
+
 module _ (at v : ℕ) where
   pub class-number : (c : Class) → class_of at v ≡ fine c → v ≡ class_number c
-  class-number c = choice class_number v c (eqb v 0) Standard _ (eqb-true v 0) (last-choice class_number v c (eqb v 1) System (out_of_range at) (eqb-true v 1))
+  class-number c e = class_by-number v c (standing-some at _ c e)
 
   pub channel-number : (k : ChannelKind) → channel_kind_of at v ≡ fine k → v ≡ channel_number k
-  channel-number k = choice channel_number v k (eqb v 0) Sampling _ (eqb-true v 0) (last-choice channel_number v k (eqb v 1) Queuing (out_of_range at) (eqb-true v 1))
+  channel-number k e = channel_kind_by-number v k (standing-some at _ k e)
 
   pub flag_number_lem : (l : Bool) → flag_of at v ≡ fine l → v ≡ flag_number l
   flag_number_lem l = choice flag_number v l (eqb v 0) false _ (eqb-true v 0) (last-choice flag_number v l (eqb v 1) true (out_of_range at) (eqb-true v 1))
@@ -43,18 +57,14 @@ module _ (at v : ℕ) where
   pub scope-number : (n : ℕ) (c : Scope) → scope_of n at v ≡ fine c → v ≡ scope_number c
   scope-number n c = choice scope_number v c (ltb v n) (scopes.Partition v) _ (λ _. refl) (last-choice scope_number v c (eqb v 255) scopes.System (out_of_range at) (eqb-true v 255))
 
-  later-number : (a : Action) → later_action at v ≡ fine a → v ≡ action_number a
-  later-number a =
-      choice action_number v a (eqb v 3) Halt _ (eqb-true v 3)
-      (choice action_number v a (eqb v 4) WarmReset _ (eqb-true v 4)
-      (last-choice action_number v a (eqb v 5) ColdReset (out_of_range at) (eqb-true v 5)))
+  any-number : (a : Action) → any_action at v ≡ fine a → v ≡ action_number a
+  any-number a e = action_by-number v a (standing-some at _ a e)
 
   pub action-number : (c : Scope) (a : Action) → action_of c at v ≡ fine a → v ≡ action_number a
-  action-number (scopes.Partition p) a =
-      choice action_number v a (eqb v 0) Ignore _ (eqb-true v 0)
-      (choice action_number v a (eqb v 1) Signal _ (eqb-true v 1)
-      (choice action_number v a (eqb v 2) Suspend _ (eqb-true v 2) (later-number a)))
-  action-number scopes.System a = choice action_number v a (eqb v 0) Ignore _ (eqb-true v 0) (later-number a)
+  action-number (scopes.Partition p) a e = any-number a e
+  action-number scopes.System a e =
+      let f = then-fine (any_action at v) (systems at) a e in
+      any-number f.0 f.1 ∙ ap action_number (systems-same at f.0 a f.2)
 
   pub kind-number : (k : Kind) → kind_of at v ≡ fine k → v ≡ kind_number k
   kind-number k =

@@ -6,16 +6,17 @@ use Rattle.vector.specs.Bodies.{Said, next_direction, header, plan}
 use Rattle.vector.specs.Config.{PartitionIn, PlanIn, PortIn, ChannelIn, LinkIn, LineIn, ActionIn, Config, Each, PartitionRule, SlotRule, PlanRule, ports_in, PortRule, ChannelRule, LinkRule, LineRule, ActionRule, HasSlot, HasPorts, Valid, direction_after, placeless, said_partition, said_slot, said_port, said_channel, said_link, said_line, said_action, encode, TakenIsValid}
 use Rattle.vector.specs.Encoding.{bytes_of}
 use Rattle.vector.specs.Out.{Out, fine, bad}
-use Rattle.vector.specs.Ranges.{In, kind_said, Ranged}
+use Rattle.tables.specs.Laws.{In}
+use Rattle.vector.specs.Ranges.{kind_said, Ranged}
 use Rattle.vector.specs.Reading.{read_on, reading, verdict_of, taken, refused, takes}
 use Rattle.vector.specs.Reasons.{owed}
 use Rattle.vector.specs.Rooms.{Room}
 use Rattle.vector.specs.Sofars.{nothing}
 use Rattle.vector.specs.Turns.{follows, ready, in_turn, ends, has_partitions, has_plans, has_ports, settled}
-use Rattle.vector.specs.declared.record.Kind.{Kind}
-use Rattle.vector.specs.declared.record.Kind.TheVariants.{Header, Partition, Plan, Slot, Channel, Port, Ipvi, Line, Action}
+use Rattle.vector.specs.declared.kind.Kind.{Kind}
+use Rattle.vector.specs.declared.kind.Kind.TheVariants.{Header, Partition, Plan, Slot, Channel, Port, Ipvi, Line, Action}
 use Rattle.vector.specs.declared.sofar.Sofar.{Sofar}
-use Rattle.vector.specs.declared.tables.Slot as slots
+use Rattle.tables.specs.declared.plan.Slot as slots
 use Rattle.vector.proofs.Joined.{after, Related}
 use Rattle.vector.proofs.Rooms.{room_after}
 use Rattle.vector.proofs.Keeps.{room-nothing}

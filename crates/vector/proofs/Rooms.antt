@@ -1,20 +1,21 @@
 -- A record that is in turn finds its rows, and leaves room for the next.
 use Rattle.std.proofs.Common.{◌≡◌, ℕ, ◌+◌, ◌-◌, ◌<◌, ◌≤◌, true, false, get_or, set, is_some, Some, None, Option, refl, subst, arith}
 use Rattle.std.proofs.lemmas.Bool.{and_parts, leb-true, ltb-true, false≢true, true≢false}
-use Rattle.vector.specs.Blank.{channel0}
+use Rattle.tables.specs.Blank.{channel0}
 use Rattle.vector.specs.Bodies.{Said, header, partition, plan, slot, channel, port, ipvi, line, action}
-use Rattle.vector.specs.Rows.{channel_with, open_channel, ported}
+use Rattle.tables.specs.Rows.{channel_with, open_channel, ported}
 use Rattle.vector.specs.Turns.{follows, ready, in_turn}
-use Rattle.vector.specs.Joins.{InScope, Ready}
+use Rattle.tables.specs.Events.{InScope}
+use Rattle.vector.specs.Joins.{Ready}
 use Rattle.vector.specs.Ranges.{EventIn}
 use Rattle.vector.specs.Rooms.{Promised, Ported, Room}
-use Rattle.vector.specs.declared.record.Kind.{Kind}
-use Rattle.vector.specs.declared.record.Kind.TheVariants.{Header, Partition, Plan, Slot, Channel, Port, Ipvi, Line, Action}
-use Rattle.vector.specs.declared.record.Scope.{Scope}
-use Rattle.vector.specs.declared.record.Scope.TheVariants as scopes
+use Rattle.vector.specs.declared.kind.Kind.{Kind}
+use Rattle.vector.specs.declared.kind.Kind.TheVariants.{Header, Partition, Plan, Slot, Channel, Port, Ipvi, Line, Action}
+use Rattle.tables.specs.declared.response.Scope.{Scope}
+use Rattle.tables.specs.declared.response.Scope.TheVariants as scopes
 use Rattle.vector.specs.declared.sofar.Sofar.{Sofar}
-use Rattle.vector.specs.declared.tables.Channel as channels
-use Rattle.vector.proofs.Lists.{replaced}
+use Rattle.tables.specs.declared.channel.Channel as channels
+use Rattle.tables.proofs.Lists.{replaced}
 use Rattle.vector.proofs.Told.{Told}
 use Rattle.vector.proofs.Joined.{after, Related}
 

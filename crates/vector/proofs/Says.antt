@@ -5,26 +5,30 @@ use Rattle.std.proofs.lemmas.Nat.{pow_pos, div_below}
 use Rattle.std.proofs.lemmas.Bool.{and_from, le-leb, lt-ltb, le-ltb, eq-eqb, cond-true, cond-false, not_from_false}
 use Rattle.vector.specs.Reasons.{out_of_range, out_of_turn}
 use Rattle.vector.specs.Out.{Out, fine, bad, then, pass}
-use Rattle.vector.specs.Encoding.{class_number, channel_number, scope_number, action_number, flag_number, body_of, bytes_of}
-use Rattle.vector.specs.Fields.{within, existing, class_of, channel_kind_of, deepest, direction_number, directed, has_bit, masked, scope_of, event_of, action_of, flag_of}
-use Rattle.vector.specs.Frames.{word16, suits, kind_of, Framed, framed}
+use Rattle.tables.specs.Numbers.{class_number, channel_number, scope_number, action_number, direction_number}
+use Rattle.vector.specs.Encoding.{flag_number, body_of, bytes_of}
+use Rattle.vector.specs.Fields.{within, existing, class_of, channel_kind_of, deepest, directed, masked, scope_of, event_of, action_of, flag_of}
+use Rattle.tables.specs.Bits.{has_bit}
+use Rattle.frame.specs.Frames.{word16}
+use Rattle.vector.specs.Frames.{suits, kind_of, Framed, framed}
 use Rattle.vector.specs.Bodies.{Said, NameAt, header, partition, plan, slot, channel, port, ipvi, line, action, next_direction, said_by}
-use Rattle.vector.specs.Ranges.{kind_said, In, Mask, EventIn, Allows, Ranged}
+use Rattle.vector.specs.Ranges.{kind_said, Mask, EventIn, Allows, Ranged}
+use Rattle.tables.specs.Laws.{In}
 use Rattle.vector.specs.Turns.{kind_number, in_turn}
 use Rattle.vector.specs.Reading.{read_on, heard}
 use Rattle.vector.specs.Points.{Point, step_over}
-use Rattle.vector.specs.declared.record.Kind.{Kind}
-use Rattle.vector.specs.declared.record.Kind.TheVariants.{Header, Partition, Plan, Slot, Channel, Port, Ipvi, Line, Action}
-use Rattle.vector.specs.declared.record.Scope.{Scope}
-use Rattle.vector.specs.declared.record.Scope.TheVariants as scopes
+use Rattle.vector.specs.declared.kind.Kind.{Kind}
+use Rattle.vector.specs.declared.kind.Kind.TheVariants.{Header, Partition, Plan, Slot, Channel, Port, Ipvi, Line, Action}
+use Rattle.tables.specs.declared.response.Scope.{Scope}
+use Rattle.tables.specs.declared.response.Scope.TheVariants as scopes
 use Rattle.vector.specs.declared.sofar.Sofar.{Sofar}
-use Rattle.vector.specs.declared.tables.Action as actions
-use Rattle.vector.specs.declared.tables.Action.TheVariants.{Ignore, Signal, Suspend, Halt, WarmReset, ColdReset}
-use Rattle.vector.specs.declared.tables.ChannelKind.{ChannelKind}
-use Rattle.vector.specs.declared.tables.ChannelKind.TheVariants.{Sampling, Queuing}
-use Rattle.vector.specs.declared.tables.Class.{Class}
-use Rattle.vector.specs.declared.tables.Class.TheVariants.{Standard, System}
-use Rattle.vector.specs.declared.tables.Direction.{Direction}
+use Rattle.tables.specs.declared.response.Action as actions
+use Rattle.tables.specs.declared.response.Action.TheVariants.{Ignore, Signal, Suspend, Halt, WarmReset, ColdReset}
+use Rattle.tables.specs.declared.channel.ChannelKind.{ChannelKind}
+use Rattle.tables.specs.declared.channel.ChannelKind.TheVariants.{Sampling, Queuing}
+use Rattle.tables.specs.declared.partition.Class.{Class}
+use Rattle.tables.specs.declared.partition.Class.TheVariants.{Standard, System}
+use Rattle.tables.specs.declared.port.Direction.{Direction}
 use Rattle.vector.proofs.Cuts.{framed-fine}
 use Rattle.vector.proofs.Joined.{after, Related, fine-joined}
 use Rattle.vector.proofs.Scans.{Stepped, scan_step}

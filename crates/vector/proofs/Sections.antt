@@ -4,7 +4,7 @@ use Rattle.std.proofs.lemmas.List.{append-nil}
 use Rattle.vector.specs.Bodies.{header, plan}
 use Rattle.vector.specs.Config.{PartitionIn, PlanIn, PortIn, ChannelIn, LinkIn, LineIn, ActionIn, written, partition_bytes, slot_bytes, plan_bytes, port_bytes, channel_bytes, link_bytes, line_bytes, action_bytes, said_port, said_channel, encode}
 use Rattle.vector.specs.Encoding.{bytes_of}
-use Rattle.vector.specs.declared.tables.Slot as slots
+use Rattle.tables.specs.declared.plan.Slot as slots
 use Rattle.vector.proofs.Stages.{stage}
 
 -- bytes that come at the end of a section come at the end of all, where the sections after it are empty

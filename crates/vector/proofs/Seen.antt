@@ -4,23 +4,23 @@ use Rattle.std.specs.Str.{bytes_eq}
 use Rattle.std.proofs.Math.Bool.{or_assoc}
 use Rattle.std.proofs.lemmas.List.{length-set}
 use Rattle.std.proofs.lemmas.Bool.{eq-eqb, ne_eqb, cond-false, and_from, and_left, and_right, or_left}
-use Rattle.vector.specs.Blank.{row0, slot0, plan0, channel0}
+use Rattle.tables.specs.Blank.{row0, slot0, plan0, channel0}
 use Rattle.vector.specs.Config.{PartitionIn, PlanIn, PortIn, ChannelIn, LinkIn, LineIn, ActionIn, is_named, end_of_last, ports_in, is_link, is_line, same_scope, is_action}
-use Rattle.vector.specs.Joins.{InScope}
-use Rattle.vector.specs.Names.{any, padded, same_name, has_name, clash}
-use Rattle.vector.specs.Rows.{plan_with, placed, end_of, slot_end, ported, linked}
+use Rattle.tables.specs.Events.{InScope}
+use Rattle.tables.specs.Names.{any, padded, same_name, has_name, clash}
+use Rattle.tables.specs.Rows.{plan_with, placed, end_of, slot_end, ported, linked}
 use Rattle.vector.specs.Sofars.{is_given, giving}
-use Rattle.vector.specs.declared.record.Scope.{Scope}
-use Rattle.vector.specs.declared.record.Scope.TheVariants as scopes
-use Rattle.vector.specs.declared.sofar.Given.{Given}
-use Rattle.vector.specs.declared.tables.Channel.{Channel}
-use Rattle.vector.specs.declared.tables.Direction.{Direction}
-use Rattle.vector.specs.declared.tables.PartitionRow.{PartitionRow}
-use Rattle.vector.specs.Tables.{Partitions, Plans, Channels, Ports}
-use Rattle.vector.specs.declared.tables.Plan.{Plan}
-use Rattle.vector.specs.declared.tables.Port.{Port}
-use Rattle.vector.specs.declared.tables.Slot.{Slot}
-use Rattle.vector.proofs.Lists.{replaced, changed, all_alike, same-part}
+use Rattle.tables.specs.declared.response.Scope.{Scope}
+use Rattle.tables.specs.declared.response.Scope.TheVariants as scopes
+use Rattle.vector.specs.declared.given.Given.{Given}
+use Rattle.tables.specs.declared.channel.Channel.{Channel}
+use Rattle.tables.specs.declared.port.Direction.{Direction}
+use Rattle.tables.specs.declared.partition.PartitionRow.{PartitionRow}
+use Rattle.tables.specs.Tables.{Partitions, Plans, Channels, Ports}
+use Rattle.tables.specs.declared.plan.Plan.{Plan}
+use Rattle.tables.specs.declared.port.Port.{Port}
+use Rattle.tables.specs.declared.plan.Slot.{Slot}
+use Rattle.tables.proofs.Lists.{replaced, changed, all_alike, same-part}
 use Rattle.vector.proofs.Anys.{any_more, any-set, padded-same}
 
 -- partitions: how many there are, and which names they have

@@ -2,24 +2,26 @@
 use Rattle.std.proofs.Common.{◌≡◌, ℕ, ◌+◌, ◌-◌, ◌<◌, ◌≤◌, Bool, true, false, cond, ◌&&◌, ◌||◌, eqb, ltb, leb, List, [], ◌∷◌, length, get_or, take, Some, sym, refl, ap, ◌∙◌, subst, ap₂, inl, inr, arith, length-append}
 use Rattle.std.proofs.Math.Bool.{and-true}
 use Rattle.std.proofs.lemmas.Bool.{and_parts, and_from, and_cases, or_parts, or_from, or_left, or_right, eq-eqb, ne_eqb, ltb-true, lt-ltb, le-leb, leb-false, lt-leb, cond-true, cond-false, both_ways}
-use Rattle.vector.specs.Blank.{channel0}
+use Rattle.tables.specs.Blank.{channel0}
 use Rattle.vector.specs.Bodies.{NameAt, partition, plan, port, action, next_direction}
 use Rattle.vector.specs.Config.{PartitionIn, PlanIn, PortIn, ChannelIn, LinkIn, LineIn, ActionIn, Config, Each, PartitionRule, SlotRule, PlanRule, ports_in, is_of, is_called, PortRule, ChannelRule, LinkRule, LineRule, ActionRule, HasPorts, direction_after, placeless, said_partition, said_slot, said_port, said_channel, said_link, said_line, said_action}
-use Rattle.vector.specs.Joins.{is_queuing, is_full, InScope}
-use Rattle.vector.specs.Names.{any, padded, has_name, clash}
-use Rattle.vector.specs.Ranges.{In, Mask, EventIn, Ranged}
+use Rattle.tables.specs.Rows.{is_queuing, row_of, channel_with, open_plan, open_channel}
+use Rattle.vector.specs.Joins.{is_full}
+use Rattle.tables.specs.Events.{InScope}
+use Rattle.tables.specs.Names.{any, padded, has_name, clash}
+use Rattle.tables.specs.Laws.{In}
+use Rattle.vector.specs.Ranges.{Mask, EventIn, Ranged}
 use Rattle.vector.specs.Rooms.{Room}
-use Rattle.vector.specs.Rows.{row_of, channel_with, open_plan, open_channel}
 use Rattle.vector.specs.Turns.{has_partitions, has_plans, has_ports, ready}
-use Rattle.vector.specs.declared.record.Kind.{Kind}
-use Rattle.vector.specs.declared.record.Kind.TheVariants.{Header, Partition, Plan, Slot, Channel, Port, Ipvi, Line, Action}
-use Rattle.vector.specs.declared.record.Scope.{Scope}
-use Rattle.vector.specs.declared.record.Scope.TheVariants as scopes
+use Rattle.vector.specs.declared.kind.Kind.{Kind}
+use Rattle.vector.specs.declared.kind.Kind.TheVariants.{Header, Partition, Plan, Slot, Channel, Port, Ipvi, Line, Action}
+use Rattle.tables.specs.declared.response.Scope.{Scope}
+use Rattle.tables.specs.declared.response.Scope.TheVariants as scopes
 use Rattle.vector.specs.declared.sofar.Sofar.{Sofar}
-use Rattle.vector.specs.Tables.{Channels, Ports}
-use Rattle.vector.specs.declared.tables.Direction.{Direction}
-use Rattle.vector.specs.declared.tables.Direction.TheVariants.{Source, Destination}
-use Rattle.vector.specs.declared.tables.Slot as slots
+use Rattle.tables.specs.Tables.{Channels, Ports}
+use Rattle.tables.specs.declared.port.Direction.{Direction}
+use Rattle.tables.specs.declared.port.Direction.TheVariants.{Source, Destination}
+use Rattle.tables.specs.declared.plan.Slot as slots
 use Rattle.vector.proofs.Joined.{after, Related}
 use Rattle.vector.proofs.Rooms.{in_scope}
 use Rattle.vector.proofs.Fits.{Fit}

@@ -3,7 +3,7 @@ use Rattle.std.proofs.Common.{◌≡◌, ℕ, zero, suc, ◌+◌, ◌-◌, ◌�
 use lib.ListN.{get_or-replicate}
 use Rattle.std.proofs.lemmas.List.{append-nil, drop_all}
 use Rattle.std.proofs.lemmas.Bool.{and_parts, false≢true}
-use Rattle.vector.specs.Blank.{row0, plan0}
+use Rattle.tables.specs.Blank.{row0, plan0}
 use Rattle.vector.specs.Bodies.{Said, next_direction, header, partition, plan, slot, channel, port, ipvi, line, action}
 use Rattle.vector.specs.Config.{PlanIn, Config, Each, HasSlot, Valid, encode}
 use Rattle.vector.specs.Encoding.{Bytes, bytes_of}
@@ -14,18 +14,18 @@ use Rattle.vector.specs.Ranges.{kind_said, Ranged}
 use Rattle.vector.specs.Reading.{read_on, heard, followed, takes}
 use Rattle.vector.specs.Reasons.{owed}
 use Rattle.vector.specs.Rooms.{Room}
-use Rattle.vector.specs.Rows.{row_of, no_name}
+use Rattle.tables.specs.Rows.{row_of, no_name}
 use Rattle.vector.specs.Sofars.{nothing, is_given}
 use Rattle.vector.specs.Turns.{leads, ready, in_turn, settled}
-use Rattle.vector.specs.declared.record.Kind.{Kind}
-use Rattle.vector.specs.declared.record.Scope.{Scope}
-use Rattle.vector.specs.declared.record.Scope.TheVariants as scopes
+use Rattle.vector.specs.declared.kind.Kind.{Kind}
+use Rattle.tables.specs.declared.response.Scope.{Scope}
+use Rattle.tables.specs.declared.response.Scope.TheVariants as scopes
 use Rattle.vector.specs.declared.sofar.Sofar.{Sofar}
-use Rattle.vector.specs.declared.tables.Class.TheVariants.{Standard}
-use Rattle.vector.specs.declared.tables.PartitionRow.{PartitionRow}
-use Rattle.vector.specs.Tables.{Plans}
+use Rattle.tables.specs.declared.partition.Class.TheVariants.{Standard}
+use Rattle.tables.specs.declared.partition.PartitionRow.{PartitionRow}
+use Rattle.tables.specs.Tables.{Plans}
 use Rattle.vector.proofs.Outs.{then-fine, cond-fine}
-use Rattle.vector.proofs.Lists.{all_alike}
+use Rattle.tables.proofs.Lists.{all_alike}
 use Rattle.vector.proofs.Cuts.{cut_off}
 use Rattle.vector.proofs.Told.{Told}
 use Rattle.vector.proofs.Joined.{after, Related, joined-fine}

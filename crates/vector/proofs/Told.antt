@@ -5,18 +5,20 @@ use Rattle.std.proofs.lemmas.List.{drop_all}
 use Rattle.std.proofs.lemmas.Bool.{and_parts, leb-true, ltb-true, eqb-true, not-true}
 use Rattle.vector.specs.Reasons.{Reason, out_of_range}
 use Rattle.vector.specs.Out.{fine, bad, then, pass}
-use Rattle.vector.specs.Frames.{word16, suits}
-use Rattle.vector.specs.Fields.{within, existing, class_of, channel_kind_of, deepest, directed, has_bit, masked, scope_of, event_of, action_of, flag_of}
+use Rattle.frame.specs.Frames.{word16}
+use Rattle.vector.specs.Frames.{suits}
+use Rattle.vector.specs.Fields.{within, existing, class_of, channel_kind_of, deepest, directed, masked, scope_of, event_of, any_action, systems, action_of, flag_of}
+use Rattle.tables.specs.Bits.{has_bit}
 use Rattle.vector.specs.Bodies.{Said, header, partition, plan, slot, channel, port, ipvi, line, action, word32, next_direction, said_by}
 use Rattle.vector.specs.Encoding.{Bytes, body_of}
 use Rattle.vector.specs.Ranges.{kind_said, Mask, EventIn, Allows, Ranged}
-use Rattle.vector.specs.declared.record.Kind.{Kind}
-use Rattle.vector.specs.declared.record.Kind.TheVariants.{Header, Partition, Plan, Slot, Channel, Port, Ipvi, Line, Action}
-use Rattle.vector.specs.declared.record.Scope.{Scope}
-use Rattle.vector.specs.declared.record.Scope.TheVariants as scopes
+use Rattle.vector.specs.declared.kind.Kind.{Kind}
+use Rattle.vector.specs.declared.kind.Kind.TheVariants.{Header, Partition, Plan, Slot, Channel, Port, Ipvi, Line, Action}
+use Rattle.tables.specs.declared.response.Scope.{Scope}
+use Rattle.tables.specs.declared.response.Scope.TheVariants as scopes
 use Rattle.vector.specs.declared.sofar.Sofar.{Sofar}
-use Rattle.vector.specs.declared.tables.Action as actions
-use Rattle.vector.specs.declared.tables.Action.TheVariants.{Ignore, Halt, WarmReset, ColdReset}
+use Rattle.tables.specs.declared.response.Action as actions
+use Rattle.tables.specs.declared.response.Action.TheVariants.{Ignore, Signal, Suspend, Halt, WarmReset, ColdReset}
 use Rattle.vector.proofs.Numbers.{class-number, channel-number, scope-number, action-number, flag_number_lem, direction_number_lem, two_of, four_of, open_2, open_3, open_4, open_9}
 use Rattle.vector.proofs.Outs.{then-fine, pass-fine, cond-fine, same-fine, within-fine, existing-fine}
 
@@ -48,16 +50,17 @@ event_in_lem n at v at' e (scopes.Partition p) u s h =
 event_in_lem n at v at' e scopes.System u s h = within-fine 8 11 at' e u h
 
 -- an action of the system is none of signal and suspend
-system-allows : (a b c d : Bool) (x : actions.Action) (r : Reason) → cond a (fine Ignore) (cond b (fine Halt) (cond c (fine WarmReset) (cond d (fine ColdReset) (bad r)))) ≡ fine x → Allows scopes.System x
-system-allows true b c d x r e = same-fine (Allows scopes.System) Ignore x e tt
-system-allows false true c d x r e = same-fine (Allows scopes.System) Halt x e tt
-system-allows false false true d x r e = same-fine (Allows scopes.System) WarmReset x e tt
-system-allows false false false true x r e = same-fine (Allows scopes.System) ColdReset x e tt
-system-allows false false false false x r e = absurd cc
+system-allows : (at : ℕ) (a x : actions.Action) → systems at a ≡ fine x → Allows scopes.System x
+system-allows at Ignore x e = same-fine (Allows scopes.System) Ignore x e tt
+system-allows at Signal x e = absurd cc
+system-allows at Suspend x e = absurd cc
+system-allows at Halt x e = same-fine (Allows scopes.System) Halt x e tt
+system-allows at WarmReset x e = same-fine (Allows scopes.System) WarmReset x e tt
+system-allows at ColdReset x e = same-fine (Allows scopes.System) ColdReset x e tt
 
 allows : (c : Scope) (at v : ℕ) (x : actions.Action) → action_of c at v ≡ fine x → Allows c x
 allows (scopes.Partition p) at v x e = tt
-allows scopes.System at v x e = system-allows (eqb v 0) (eqb v 3) (eqb v 4) (eqb v 5) x (out_of_range at) e
+allows scopes.System at v x e = let f = then-fine (any_action at v) (systems at) x e in system-allows at f.0 x f.2
 
 module _ (s : Sofar) (at : ℕ) (b : List ℕ) where
   closed : (n : ℕ) (F : List ℕ → List ℕ) → length b ≡ n → (n ≤ length b → b ≡ F (drop n b)) → b ≡ F []

@@ -8,7 +8,7 @@ use Rattle.vector.specs.Laws.{RecordsWritten}
 use Rattle.vector.specs.Points.{Step}
 use Rattle.vector.specs.Reading.{heard}
 use Rattle.vector.specs.Turns.{kind_number}
-use Rattle.vector.specs.declared.record.Kind.{Kind}
+use Rattle.vector.specs.declared.kind.Kind.{Kind}
 use Rattle.vector.specs.declared.sofar.Sofar.{Sofar}
 use Rattle.vector.proofs.Cuts.{cut_off}
 use Rattle.vector.proofs.Heard.{was_told, body-written}

@@ -1,22 +1,22 @@
 -- What each kind of record says, field by field from the left; `at` is the place of the body's first byte.
 use Rattle.std.specs.Prelude.{ℕ, ◌+◌, ◌*◌, Bool, cond, List, drop, ◌==◌, slice_index}
 use Rattle.vector.specs.Out.{Out, fine, then, pass}
-use Rattle.vector.specs.Frames.{word16}
+use Rattle.frame.specs.Frames.{word16}
 use Rattle.vector.specs.Fields.{within, existing, class_of, channel_kind_of, deepest, directed, masked, scope_of, event_of, action_of, flag_of}
-use Rattle.vector.specs.Rows.{open_channel}
+use Rattle.tables.specs.Rows.{open_channel}
 use Rattle.vector.specs.declared.record.NameIn.{NameIn}
 use Rattle.vector.specs.declared.record.Record.{Record}
 use Rattle.vector.specs.declared.record.Record.TheVariants as records
-use Rattle.vector.specs.declared.record.Kind.{Kind}
-use Rattle.vector.specs.declared.record.Kind.TheVariants.{Header, Partition, Plan, Slot, Channel, Port, Ipvi, Line, Action}
-use Rattle.vector.specs.declared.record.Scope.{Scope}
+use Rattle.vector.specs.declared.kind.Kind.{Kind}
+use Rattle.vector.specs.declared.kind.Kind.TheVariants.{Header, Partition, Plan, Slot, Channel, Port, Ipvi, Line, Action}
+use Rattle.tables.specs.declared.response.Scope.{Scope}
 use Rattle.vector.specs.declared.sofar.Sofar.{Sofar}
-use Rattle.vector.specs.declared.tables.Action as actions
-use Rattle.vector.specs.declared.tables.ChannelKind.{ChannelKind}
-use Rattle.vector.specs.declared.tables.Class.{Class}
-use Rattle.vector.specs.declared.tables.Direction.{Direction}
-use Rattle.vector.specs.declared.tables.Direction.TheVariants.{Source, Destination}
-use Rattle.vector.specs.declared.tables.Tables.{Tables}
+use Rattle.tables.specs.declared.response.Action as actions
+use Rattle.tables.specs.declared.channel.ChannelKind.{ChannelKind}
+use Rattle.tables.specs.declared.partition.Class.{Class}
+use Rattle.tables.specs.declared.port.Direction.{Direction}
+use Rattle.tables.specs.declared.port.Direction.TheVariants.{Source, Destination}
+use Rattle.tables.specs.declared.Tables.{Tables}
 
 -- four bytes from i on, the low one first
 abbrev pub word32 : List ℕ → ℕ → ℕ

@@ -4,19 +4,19 @@ use Rattle.std.specs.Str.{bytes_eq}
 use Rattle.vector.specs.Bodies.{Said, NameAt, header, partition, plan, slot, channel, port, ipvi, line, action}
 use Rattle.vector.specs.Encoding.{Bytes, bytes_of}
 use Rattle.vector.specs.Fields.{deepest}
-use Rattle.vector.specs.Joins.{is_queuing}
-use Rattle.vector.specs.Names.{any}
-use Rattle.vector.specs.Ranges.{In, Mask, EventIn, Allows}
+use Rattle.tables.specs.Rows.{is_queuing, slot_end}
+use Rattle.tables.specs.Names.{any}
+use Rattle.tables.specs.Laws.{In}
+use Rattle.vector.specs.Ranges.{Mask, EventIn, Allows}
 use Rattle.vector.specs.Reading.{takes}
-use Rattle.vector.specs.Rows.{slot_end}
-use Rattle.vector.specs.declared.record.Scope.{Scope}
-use Rattle.vector.specs.declared.record.Scope.TheVariants.{Partition, System}
-use Rattle.vector.specs.declared.tables.Action.{Action}
-use Rattle.vector.specs.declared.tables.ChannelKind.{ChannelKind}
-use Rattle.vector.specs.declared.tables.Class.{Class}
-use Rattle.vector.specs.declared.tables.Direction.{Direction}
-use Rattle.vector.specs.declared.tables.Direction.TheVariants.{Source, Destination}
-use Rattle.vector.specs.declared.tables.Slot.{Slot}
+use Rattle.tables.specs.declared.response.Scope.{Scope}
+use Rattle.tables.specs.declared.response.Scope.TheVariants.{Partition, System}
+use Rattle.tables.specs.declared.response.Action.{Action}
+use Rattle.tables.specs.declared.channel.ChannelKind.{ChannelKind}
+use Rattle.tables.specs.declared.partition.Class.{Class}
+use Rattle.tables.specs.declared.port.Direction.{Direction}
+use Rattle.tables.specs.declared.port.Direction.TheVariants.{Source, Destination}
+use Rattle.tables.specs.declared.plan.Slot.{Slot}
 
 pub record PartitionIn : Type 0 where
   pub class : Class

@@ -1,17 +1,9 @@
 -- The bytes of a record.
 use Rattle.std.specs.Prelude.{ℕ, ◌/◌, ◌%◌, ◌<◌, Bool, true, false, List, [], ◌∷◌, ◌++◌, length, slice_index}
-use Rattle.vector.specs.Fields.{direction_number}
+use Rattle.tables.specs.Numbers.{class_number, channel_number, scope_number, action_number, direction_number}
 use Rattle.vector.specs.Bodies.{Said, header, partition, plan, slot, channel, port, ipvi, line, action}
 use Rattle.vector.specs.Ranges.{kind_said}
 use Rattle.vector.specs.Turns.{kind_number}
-use Rattle.vector.specs.declared.record.Scope.{Scope}
-use Rattle.vector.specs.declared.record.Scope.TheVariants as scopes
-use Rattle.vector.specs.declared.tables.Action.{Action}
-use Rattle.vector.specs.declared.tables.Action.TheVariants.{Ignore, Signal, Suspend, Halt, WarmReset, ColdReset}
-use Rattle.vector.specs.declared.tables.ChannelKind.{ChannelKind}
-use Rattle.vector.specs.declared.tables.ChannelKind.TheVariants.{Sampling, Queuing}
-use Rattle.vector.specs.declared.tables.Class.{Class}
-use Rattle.vector.specs.declared.tables.Class.TheVariants.{Standard, System}
 
 -- a list of bytes
 abbrev pub Bytes : List ℕ → Type 0
@@ -23,26 +15,6 @@ two n = n % 256 ∷ n / 256 ∷ []
 
 abbrev pub four : ℕ → List ℕ
 four n = two (n % 65536) ++ two (n / 65536)
-
-abbrev pub class_number : Class → ℕ
-class_number Standard = 0
-class_number System = 1
-
-abbrev pub channel_number : ChannelKind → ℕ
-channel_number Sampling = 0
-channel_number Queuing = 1
-
-abbrev pub scope_number : Scope → ℕ
-scope_number (scopes.Partition p) = p
-scope_number scopes.System = 255
-
-abbrev pub action_number : Action → ℕ
-action_number Ignore = 0
-action_number Signal = 1
-action_number Suspend = 2
-action_number Halt = 3
-action_number WarmReset = 4
-action_number ColdReset = 5
 
 abbrev pub flag_number : Bool → ℕ
 flag_number false = 0

@@ -1,7 +1,7 @@
 -- Worked examples: bytes, and the verdict on them.
 use Rattle.std.specs.Prelude.{ℕ, zero, suc, List, [], ◌∷◌, ◌++◌, take}
 use Rattle.vector.specs.Reading.{Verdict, taken, refused}
-use Rattle.vector.specs.declared.fault.Layer.TheVariants.{Frame, Field, Relation}
+use Rattle.vector.specs.declared.refusal.Layer.TheVariants.{Frame, Field, Relation}
 
 pub record Example : Type 0 where
   pub bytes : List ℕ

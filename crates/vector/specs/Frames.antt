@@ -1,14 +1,10 @@
--- How a record is cut off the front of the bytes that are left.
-use Rattle.std.specs.Prelude.{ℕ, ◌+◌, ◌*◌, Bool, cond, ◌&&◌, List, length, take, drop, Some, None, Option, ◌==◌, nat_le, nat_lt, slice_index}
+-- Which record stands at the front of the bytes that are left: its kind is known, and its body suits it.
+use Rattle.std.specs.Prelude.{ℕ, ◌+◌, Bool, cond, ◌&&◌, List, length, take, drop, ◌==◌, nat_le, nat_lt}
+use Rattle.frame.specs.Frames.{word16, Piece}
 use Rattle.vector.specs.Reasons.{past_end, unknown_kind, wrong_length}
 use Rattle.vector.specs.Out.{Out, fine, bad, then}
-use Rattle.vector.specs.declared.frame.Cut.{Cut}
-use Rattle.vector.specs.declared.record.Kind.{Kind}
-use Rattle.vector.specs.declared.record.Kind.TheVariants.{Header, Partition, Plan, Slot, Channel, Port, Ipvi, Line, Action}
-
--- two bytes from i on, the low one first
-abbrev pub word16 : List ℕ → ℕ → ℕ
-word16 bs i = slice_index bs i + 256 * slice_index bs (i + 1)
+use Rattle.vector.specs.declared.kind.Kind.{Kind}
+use Rattle.vector.specs.declared.kind.Kind.TheVariants.{Header, Partition, Plan, Slot, Channel, Port, Ipvi, Line, Action}
 
 -- the kind of each number
 abbrev pub kind_of : ℕ → ℕ → Out Kind
@@ -36,25 +32,8 @@ suits Ipvi n = n == 3
 suits Line n = n == 2
 suits Action n = n == 4
 
--- a record cut off: its kind or the number of its kind, its body, and the bytes after it
-pub record Piece (K : Type 0) : Type 0 where
-  pub kind : K
-  pub body : List ℕ
-  pub rest : List ℕ
-
 abbrev pub Framed : Type 0
 Framed = Piece Kind
-
-module _ {K : Type 0} where
-  abbrev pub framed_of : Cut K → Piece K
-  framed_of c = record { kind = c.kind; body = c.body.now; rest = c.rest.now }
-
--- what stands at the front: a length, the number of a kind, and as many bytes as the length says
-abbrev pub front : List ℕ → Option (Piece ℕ)
-front bs =
-    cond (nat_lt (length bs) 4) None
-    (cond (nat_lt (length bs) (4 + word16 bs 0)) None
-    (Some (record { kind = word16 bs 2; body = take (word16 bs 0) (drop 4 bs); rest = drop (4 + word16 bs 0) bs })))
 
 -- a body of n bytes and the rest, if the body suits the kind
 abbrev pub cut_at : ℕ → ℕ → List ℕ → Kind → Out Framed

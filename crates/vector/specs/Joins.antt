@@ -1,24 +1,27 @@
 -- The relations of a record to those before it.
-use Rattle.std.specs.Prelude.{ℕ, ◌-◌, ◌<◌, ◌≤◌, Bool, true, false, cond, ◌&&◌, ◌||◌, length, take, is_some, None, nat_le, slice_index_or}
-use Rattle.vector.specs.Reasons.{too_many, repeated, misplaced}
-use Rattle.vector.specs.Out.{Out, fine, bad, pass}
-use Rattle.vector.specs.Names.{padded, named, clashes}
-use Rattle.vector.specs.Rows.{row_of, channel_with, open_plan, open_channel, end_of, slot_end, partition_at, add_partition, add_plan, add_slot, add_channel, add_port, add_link, add_line, add_response, add_system_response}
+use Rattle.std.specs.Prelude.{ℕ, ◌-◌, ◌<◌, ◌≤◌, Bool, cond, ◌&&◌, ◌||◌, length, take, is_some, None, nat_le, slice_index_or, Result}
+use Rattle.tables.specs.Events.{InScope}
+use Rattle.tables.specs.Rows.{is_queuing, respond, row_of, channel_with, open_plan, open_channel, end_of, slot_end, partition_at, add_partition, add_plan, add_slot, add_channel, add_port, add_link, add_line}
+use Rattle.vector.specs.Reasons.{too_many, repeated, misplaced, relation_reason}
+use Rattle.vector.specs.Out.{Out, fine, bad, pass, out}
+use Rattle.vector.specs.declared.refusal.RelationFault.{RelationFault}
+use Rattle.tables.specs.Names.{padded, named, clashes}
 use Rattle.vector.specs.Sofars.{with_header, with_tables, with_given, is_given, giving}
 use Rattle.vector.specs.Bodies.{Said, header, partition, plan, slot, channel, port, ipvi, line, action}
-use Rattle.vector.specs.declared.record.Kind.TheVariants.{Partition, Plan, Slot, Channel, Port, Ipvi, Line, Action}
-use Rattle.vector.specs.declared.record.Scope.{Scope}
-use Rattle.vector.specs.declared.record.Scope.TheVariants as scopes
+use Rattle.vector.specs.declared.kind.Kind.TheVariants.{Partition, Plan, Slot, Channel, Port, Ipvi, Line, Action}
+use Rattle.tables.specs.declared.response.Scope.{Scope}
 use Rattle.vector.specs.declared.sofar.Sofar.{Sofar}
-use Rattle.vector.specs.declared.tables.Channel as channels
-use Rattle.vector.specs.declared.tables.ChannelKind.{ChannelKind}
-use Rattle.vector.specs.declared.tables.ChannelKind.TheVariants.{Sampling, Queuing}
-use Rattle.vector.specs.declared.tables.PartitionRow.{PartitionRow}
-use Rattle.vector.specs.declared.tables.Plan as plans
-use Rattle.vector.specs.declared.tables.Port as ports
-use Rattle.vector.specs.declared.tables.Response.{Response}
-use Rattle.vector.specs.declared.tables.Slot as slots
-use Rattle.vector.specs.declared.tables.Tables.{Tables}
+use Rattle.tables.specs.declared.channel.Channel as channels
+use Rattle.tables.specs.declared.partition.PartitionRow.{PartitionRow}
+use Rattle.tables.specs.declared.plan.Plan as plans
+use Rattle.tables.specs.declared.port.Port as ports
+use Rattle.tables.specs.declared.response.Response.{Response}
+use Rattle.tables.specs.declared.plan.Slot as slots
+use Rattle.tables.specs.declared.Tables.{Tables}
+
+-- what a join leaves: what the records have said now, or the reason of its refusal
+abbrev pub left_by : Result (Unit {0}) RelationFault → Sofar → Out Sofar
+left_by r s = out relation_reason (λ _. s) r
 
 -- no two partitions have one name
 abbrev pub joined_partition : ℕ → Sofar → PartitionRow → Out Sofar
@@ -38,10 +41,6 @@ joined_slot at s x = pass (admitted at (open_plan s.tables) x) (fine (with_table
 -- there are at most 8 channels
 abbrev pub joined_channel : ℕ → Sofar → channels.Channel → Out Sofar
 joined_channel at s x = cond (nat_le 8 s.tables.channels.count) (bad (too_many at)) (fine (with_tables Channel (add_channel x s.tables) s))
-
-abbrev pub is_queuing : ChannelKind → Bool
-is_queuing Sampling = false
-is_queuing Queuing = true
 
 -- there are at most 32 ports, and a queuing channel has at most two
 abbrev pub is_full : Tables → Bool
@@ -66,10 +65,6 @@ joined_line at s l p =
     cond (is_some (slice_index_or s.tables.lines l None)) (bad (repeated at))
     (fine (with_tables Line (add_line l p s.tables) s))
 
-abbrev pub respond : Scope → ℕ → Response → Tables → Tables
-respond (scopes.Partition p) e x t = add_response p e x t
-respond scopes.System e x t = add_system_response e x t
-
 -- an event of a scope is given at most one action
 abbrev pub joined_action : ℕ → Sofar → Scope → ℕ → Response → Out Sofar
 joined_action at s c e x =
@@ -86,11 +81,6 @@ joined at s (port p d n) = joined_port at s (record { partition = p; channel = s
 joined at s (ipvi n p m) = joined_link at s n p m
 joined at s (line l p) = joined_line at s l p
 joined at s (action c e a l) = joined_action at s c e (record { action = a; log = l })
-
--- the event is one of the scope's, and the partition's number is below 8
-abbrev pub InScope : Scope → ℕ → Type 0
-InScope (scopes.Partition p) e = (p < 8) × (e < 8)
-InScope scopes.System e = (8 ≤ e) × (e < 12)
 
 -- what a record needs to go into the tables: rows for its numbers, and a name that fits
 abbrev pub Ready : Sofar → Said → Type 0

@@ -5,7 +5,7 @@ use Rattle.vector.specs.Frames.{Framed, framed}
 use Rattle.vector.specs.Bodies.{Said, said_of}
 use Rattle.vector.specs.Joins.{joined}
 use Rattle.vector.specs.Turns.{ending}
-use Rattle.vector.specs.Reading.{heard}
+use Rattle.vector.specs.Reading.{heard, read_on}
 use Rattle.vector.specs.declared.reader.Records.{Records}
 use Rattle.vector.specs.declared.reader.Shown as declared
 use Rattle.vector.specs.declared.sofar.Sofar.{Sofar}
@@ -18,6 +18,10 @@ pub record Point : Type 0 where
 
 abbrev pub point_of : Records → Point
 point_of r = record { at = r.at; sofar = r.sofar; rest = r.rest.now }
+
+-- what the records that are left say with those so far, or the first refusal
+abbrev pub remaining : Point → Out Sofar
+remaining p = read_on 0 p.at p.sofar p.rest
 
 -- a record, and its place
 pub record Shown : Type 0 where

@@ -1,14 +1,16 @@
 -- The ranges of each kind of record's fields, where there are n partitions and the next port has the direction d.
-use Rattle.std.specs.Prelude.{◌≡◌, ℕ, ◌^◌, ◌<◌, ◌≤◌, false, length}
-use Rattle.vector.specs.Fields.{has_bit, deepest}
+use Rattle.std.specs.Prelude.{◌≡◌, ℕ, ◌^◌, ◌<◌, false, length}
+use Rattle.tables.specs.Laws.{In}
+use Rattle.tables.specs.Bits.{has_bit}
+use Rattle.vector.specs.Fields.{deepest}
 use Rattle.vector.specs.Bodies.{Said, header, partition, plan, slot, channel, port, ipvi, line, action}
-use Rattle.vector.specs.declared.record.Kind.{Kind}
-use Rattle.vector.specs.declared.record.Kind.TheVariants as kinds
-use Rattle.vector.specs.declared.record.Scope.{Scope}
-use Rattle.vector.specs.declared.record.Scope.TheVariants.{Partition, System}
-use Rattle.vector.specs.declared.tables.Action.{Action}
-use Rattle.vector.specs.declared.tables.Action.TheVariants.{Ignore, Signal, Suspend, Halt, WarmReset, ColdReset}
-use Rattle.vector.specs.declared.tables.Direction.{Direction}
+use Rattle.vector.specs.declared.kind.Kind.{Kind}
+use Rattle.vector.specs.declared.kind.Kind.TheVariants as kinds
+use Rattle.tables.specs.declared.response.Scope.{Scope}
+use Rattle.tables.specs.declared.response.Scope.TheVariants.{Partition, System}
+use Rattle.tables.specs.declared.response.Action.{Action}
+use Rattle.tables.specs.declared.response.Action.TheVariants.{Signal, Suspend}
+use Rattle.tables.specs.declared.port.Direction.{Direction}
 
 -- the kind of what is said
 abbrev pub kind_said : Said → Kind
@@ -22,9 +24,6 @@ kind_said (ipvi n p m) = kinds.Ipvi
 kind_said (line l p) = kinds.Line
 kind_said (action s e a l) = kinds.Action
 
-abbrev pub In : ℕ → ℕ → ℕ → Type 0
-In low high v = (low ≤ v) × (v ≤ high)
-
 -- a mask of the n partitions, and not of the source
 abbrev pub Mask : ℕ → ℕ → ℕ → Type 0
 Mask n source mask = (mask < 2 ^ n) × (has_bit mask source ≡ false)
@@ -37,12 +36,9 @@ EventIn n System e = In 8 11 e
 -- the system is neither signalled nor suspended
 abbrev pub Allows : Scope → Action → Type 0
 Allows (Partition p) a = Unit {0}
-Allows System Ignore = Unit {0}
 Allows System Signal = ⊥
 Allows System Suspend = ⊥
-Allows System Halt = Unit {0}
-Allows System WarmReset = Unit {0}
-Allows System ColdReset = Unit {0}
+Allows System a = Unit {0}
 
 abbrev pub Ranged : ℕ → Direction → Said → Type 0
 Ranged n d (header p m) = In 1 8 p × In 1 4 m

@@ -3,14 +3,14 @@ use Rattle.std.specs.Prelude.{ℕ, zero, suc, ◌+◌, Bool, true, false, List, 
 use Rattle.vector.specs.Out.{Out, fine, bad, then, pass}
 use Rattle.vector.specs.Frames.{framed}
 use Rattle.vector.specs.Bodies.{Said, said_by}
-use Rattle.vector.specs.Rows.{blank}
+use Rattle.tables.specs.Rows.{blank}
 use Rattle.vector.specs.Sofars.{nothing}
 use Rattle.vector.specs.Turns.{turned, ending}
 use Rattle.vector.specs.Joins.{joined}
-use Rattle.vector.specs.declared.fault.Layer.{Layer}
-use Rattle.vector.specs.declared.record.Kind.{Kind}
+use Rattle.vector.specs.declared.refusal.Layer.{Layer}
+use Rattle.vector.specs.declared.kind.Kind.{Kind}
 use Rattle.vector.specs.declared.sofar.Sofar.{Sofar}
-use Rattle.vector.specs.declared.tables.Tables.{Tables}
+use Rattle.tables.specs.declared.Tables.{Tables}
 
 -- what a record of a known kind and the right length says: its turn comes before its fields
 abbrev pub heard : ℕ → Sofar → Kind → List ℕ → Out Said

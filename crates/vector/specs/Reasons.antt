@@ -1,15 +1,15 @@
 -- The reason of each refusal: its layer, its number and its place.
 use Rattle.std.specs.Prelude.{ℕ}
-use Rattle.vector.specs.declared.fault.FrameFault.{FrameFault}
-use Rattle.vector.specs.declared.fault.FrameFault.TheVariants.{PastEnd, UnknownKind, WrongLength, OutOfTurn, Owed}
-use Rattle.vector.specs.declared.fault.FieldFault.{FieldFault}
-use Rattle.vector.specs.declared.fault.FieldFault.TheVariants.{OutOfRange}
-use Rattle.vector.specs.declared.fault.RelationFault.{RelationFault}
-use Rattle.vector.specs.declared.fault.RelationFault.TheVariants.{TooMany, Repeated, Misplaced}
-use Rattle.vector.specs.declared.fault.Refusal.{Refusal}
-use Rattle.vector.specs.declared.fault.Refusal.TheVariants as refusals
-use Rattle.vector.specs.declared.fault.Layer.{Layer}
-use Rattle.vector.specs.declared.fault.Layer.TheVariants.{Frame, Field, Relation}
+use Rattle.vector.specs.declared.refusal.FrameFault.{FrameFault}
+use Rattle.vector.specs.declared.refusal.FrameFault.TheVariants.{PastEnd, UnknownKind, WrongLength, OutOfTurn, Owed}
+use Rattle.vector.specs.declared.refusal.FieldFault.{FieldFault}
+use Rattle.vector.specs.declared.refusal.FieldFault.TheVariants.{OutOfRange}
+use Rattle.vector.specs.declared.refusal.RelationFault.{RelationFault}
+use Rattle.vector.specs.declared.refusal.RelationFault.TheVariants.{TooMany, Repeated, Misplaced}
+use Rattle.vector.specs.declared.refusal.Refusal.{Refusal}
+use Rattle.vector.specs.declared.refusal.Refusal.TheVariants as refusals
+use Rattle.vector.specs.declared.refusal.Layer.{Layer}
+use Rattle.vector.specs.declared.refusal.Layer.TheVariants.{Frame, Field, Relation}
 
 pub record Reason : Type 0 where
   pub layer : Layer

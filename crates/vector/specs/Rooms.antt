@@ -1,8 +1,8 @@
 -- What the records so far keep of the tables, so that the next record finds its rows.
 use Rattle.std.specs.Prelude.{◌≡◌, ℕ, ◌≤◌, false, is_some, slice_index_or}
-use Rattle.vector.specs.Blank.{channel0}
+use Rattle.tables.specs.Blank.{channel0}
 use Rattle.vector.specs.declared.sofar.Sofar.{Sofar}
-use Rattle.vector.specs.declared.tables.Tables.{Tables}
+use Rattle.tables.specs.declared.Tables.{Tables}
 
 -- at most 8 partitions and 4 plans are promised, and none before the header
 abbrev pub Promised : Sofar → Type 0

@@ -1,25 +1,29 @@
 // The bodies of the records, field by field from the left.
 ghost use Rattle.std.specs.Prelude.{◌≡◌, ◌+◌, ◌^◌, ◌<◌, ◌≤◌, true, length, drop};
 ghost use Rattle.vector.specs.Out.{out};
-ghost use Rattle.vector.specs.Reasons.{field_reason};
+ghost use Rattle.vector.specs.Reading.{heard};
+ghost use Rattle.vector.specs.Reasons.{field_reason, reason};
+ghost use Rattle.vector.specs.Rooms.{Room};
 ghost use Rattle.vector.specs.Frames.{suits};
-ghost use Rattle.vector.specs.Bodies.{name_of, said_of, header_of, partition_of, plan_of, slot_of, channel_of, port_of, ipvi_of, line_of, action_said, said_by};
+ghost use Rattle.vector.specs.Bodies.{name_of, next_direction, said_of, header_of, partition_of, plan_of, slot_of, channel_of, port_of, ipvi_of, line_of, action_said, said_by};
 
-use crate::fault::FieldFault;
 use crate::fields::{
-    action_by, flag_by, in_range, is_direction, is_event, is_mask, is_there, known, scope_by,
+    action_by, deepest, flag_by, in_range, is_direction, is_event, is_mask, is_there, known,
+    scope_by,
 };
-use crate::record::{Kind, NameIn, Record};
+use crate::kind::Kind;
+use crate::record::{NameIn, Record};
+use crate::refusal::{FieldFault, Refusal};
 use crate::sofar::Sofar;
-use crate::tables::{ChannelKind, Class, Direction};
+use tables::{ChannelKind, Class, Direction, Tables};
 
 // A `NameIn` has a part of a body: whether its place is small is nothing that a reader of records need know. How many partitions there
 // are goes beside the body, since the header says it. The lengths asked below are each kind's own.
 /// The bytes of a record's body, and the place of the first one.
 #[derive(Clone, Copy)]
-pub(crate) struct Body<'a> {
-    pub(crate) bytes: &'a [u8],
-    pub(crate) at: usize,
+struct Body<'a> {
+    bytes: &'a [u8],
+    at: usize,
     ghost small: { at + length bytes.now < 2 ^ 64 },
 }
 
@@ -106,12 +110,23 @@ fn channel<'a>(body: Body<'a>) -> Result<Record<'a>, FieldFault>
     let kind = known(ChannelKind::try_from(*kind), body.at)?;
     let longest = u16::from_le_bytes([*l0, *l1]);
     in_range(longest as u32, 1, 64, body.at + 1)?;
-    in_range(*depth as u32, 1, kind.deepest(), body.at + 3)?;
+    in_range(*depth as u32, 1, deepest(kind), body.at + 3)?;
     Ok(Record::Channel {
         kind,
         longest,
         depth: *depth,
     })
+}
+
+/// The direction of the next port: a channel's first is its source, the others are destinations.
+fn next_direction(tables: &Tables) -> Direction
+    ensures { result ≡ next_direction tables.now }
+{
+    if tables.open_channel().ports == 0 {
+        Direction::Source
+    } else {
+        Direction::Destination
+    }
 }
 
 fn port<'a>(body: Body<'a>, partitions: u8, direction: Direction) -> Result<Record<'a>, FieldFault>
@@ -182,11 +197,7 @@ fn action<'a>(body: Body<'a>, partitions: u8) -> Result<Record<'a>, FieldFault>
 }
 
 /// What a body of this kind says, after what the records so far have said.
-pub(crate) fn read_body<'a>(
-    kind: Kind,
-    body: Body<'a>,
-    sofar: &Sofar,
-) -> Result<Record<'a>, FieldFault>
+fn read_body<'a>(kind: Kind, body: Body<'a>, sofar: &Sofar) -> Result<Record<'a>, FieldFault>
     requires suited { suits kind (length body.bytes.now) ≡ true }
     requires few { sofar.now.partitions ≤ 8 }
     ensures { out field_reason said_of result ≡ said_by kind sofar.now body.entry.at body.entry.bytes.now }
@@ -198,9 +209,29 @@ pub(crate) fn read_body<'a>(
         Kind::Plan => plan(body),
         Kind::Slot => slot(body, sofar.partitions),
         Kind::Channel => channel(body),
-        Kind::Port => port(body, sofar.partitions, sofar.tables.next_direction()),
+        Kind::Port => port(body, sofar.partitions, next_direction(&sofar.tables)),
         Kind::Ipvi => ipvi(body, sofar.partitions),
         Kind::Line => line(body, sofar.partitions),
         Kind::Action => action(body, sofar.partitions),
     }
+}
+
+/// What a record of a known kind and the right length says, if it is in turn and its fields are in range.
+pub(crate) fn hear<'a>(
+    kind: Kind,
+    body: &'a [u8],
+    sofar: &Sofar,
+    at: usize,
+) -> Result<Record<'a>, Refusal>
+    requires room { Room sofar.now }
+    requires suited { suits kind (length body.now) ≡ true }
+    requires small { at + 4 + length body.now < 2 ^ 64 }
+    ensures { out reason said_of result ≡ heard at sofar.now kind body.now }
+{
+    sofar.turn(kind, at)?;
+    let body = Body {
+        bytes: body,
+        at: at + 4,
+    };
+    Ok(read_body(kind, body, sofar)?)
 }

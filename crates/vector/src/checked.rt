@@ -1,13 +1,12 @@
 // A vector that was checked: the value that gives the tables, once.
 ghost use Rattle.std.specs.Prelude.{◌≡◌, true};
 ghost use Rattle.vector.specs.Reading.{takes, tables as tables_of};
-ghost use Rattle.vector.specs.Sound.{Sound};
-ghost use Rattle.vector.specs.Fair.{Fair};
-ghost use Rattle.vector.specs.Laws.{AreasSized, Lawful};
+ghost use Rattle.tables.specs.Sound.{Sound};
+ghost use Rattle.tables.specs.Fair.{Fair};
+ghost use Rattle.tables.specs.Laws.{AreasSized, Lawful};
 
 use crate::reader::Records;
-use crate::scan::read_all;
-use crate::tables::Tables;
+use tables::Tables;
 
 /// Bytes that are known to be taken, and their tables. It can be neither copied nor let go: `tables` spends it.
 pub struct Checked<'a> {
@@ -24,7 +23,7 @@ impl<'a> Checked<'a> {
         ensures { result.bytes.now ≡ bytes.now }
     {
         let mut records = Records::of(bytes);
-        match read_all(&mut records) {
+        match records.read_all() {
             Ok(()) => Checked {
                 bytes,
                 tables: records.sofar.tables,

@@ -1,16 +1,17 @@
 // Single fields of a record's body. Each is in its range, or refused at its first byte.
 ghost use Rattle.std.specs.Prelude.{◌≡◌, ◌<◌, ◌≤◌};
+ghost use Rattle.std.specs.Result.{result_ok};
 ghost use Rattle.vector.specs.Out.{out};
-ghost use Rattle.vector.specs.Reasons.{field_reason, out_of_range};
-ghost use Rattle.vector.specs.Fields.{within, existing, deepest, directed, has_bit, masked, scope_of, event_of, action_of, flag_of};
+ghost use Rattle.vector.specs.Reasons.{field_reason};
+ghost use Rattle.vector.specs.Fields.{within, standing, existing, deepest, directed, masked, scope_of, event_of, action_of, flag_of};
+ghost use Rattle.tables.specs.Bits.{has_bit};
 
-use crate::fault::{FieldFault, UnknownNumber};
-use crate::record::{SYSTEM, Scope};
-use crate::tables::{Action, ChannelKind, Direction};
+use crate::refusal::FieldFault;
+use tables::{Action, ChannelKind, Direction, SYSTEM, Scope, UnknownNumber};
 
 /// The value that a number stands for; a number that stands for nothing is refused at its place.
 pub(crate) fn known<T>(read: Result<T, UnknownNumber>, at: usize) -> Result<T, FieldFault>
-    ensures { out field_reason (λ t. t) result ≡ out (λ _. out_of_range at) (λ t. t) read }
+    ensures { out field_reason (λ t. t) result ≡ standing at (result_ok read) }
 {
     read.map_err(|_| FieldFault::OutOfRange { at })
 }
@@ -36,15 +37,13 @@ pub(crate) fn is_there(partition: u8, partitions: u8, at: usize) -> Result<(), F
     }
 }
 
-impl ChannelKind {
-    /// The most messages that a channel of this kind may hold.
-    pub(crate) fn deepest(self) -> u32
-        ensures { result ≡ deepest self }
-    {
-        match self {
-            ChannelKind::Sampling => 1,
-            ChannelKind::Queuing => 8,
-        }
+/// The most messages that a channel of this kind may hold.
+pub(crate) fn deepest(kind: ChannelKind) -> u32
+    ensures { result ≡ deepest kind }
+{
+    match kind {
+        ChannelKind::Sampling => 1,
+        ChannelKind::Queuing => 8,
     }
 }
 
@@ -59,7 +58,7 @@ pub(crate) fn is_direction(number: u8, direction: Direction, at: usize) -> Resul
     }
 }
 
-// The machine asks the same by another definition (`lookup::is_member`); theorems are worded with either, so each has its function.
+// The machine asks the same by another definition (`config::is_member`); theorems are worded with either, so each has its function.
 fn has_bit(mask: u8, bit: u8) -> bool
     requires { bit < 8 }
     ensures { result ≡ has_bit mask bit }

@@ -1,28 +1,5 @@
-// The records of a vector.
-use crate::tables::{Action, ChannelKind, Class, Direction};
-
-#[derive(Clone, Copy, Debug, PartialEq, Eq)]
-pub enum Kind {
-    Header,
-    Partition,
-    Plan,
-    Slot,
-    Channel,
-    Port,
-    Ipvi,
-    Line,
-    Action,
-}
-
-/// The number that stands for the system where a partition's could.
-pub const SYSTEM: u8 = 255;
-
-/// Whose fault events an action is for.
-#[derive(Clone, Copy, Debug, PartialEq, Eq)]
-pub enum Scope {
-    Partition(u8),
-    System,
-}
+//! A record of a vector, by what it says.
+use tables::{Action, ChannelKind, Class, Direction, Offset, Scope};
 
 /// A name as a part of the vector, and the place of its first byte.
 #[derive(Clone, Copy, Debug, PartialEq, Eq)]
@@ -43,12 +20,12 @@ pub enum Record<'a> {
         name: NameIn<'a>,
     },
     Plan {
-        frame: u32,
+        frame: Offset,
     },
     Slot {
         partition: u8,
-        start: u32,
-        duration: u32,
+        start: Offset,
+        duration: Offset,
     },
     Channel {
         kind: ChannelKind,

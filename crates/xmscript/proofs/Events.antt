@@ -1,6 +1,6 @@
 -- A run keeps the events of its history: they stand in the lines.
 use Rattle.std.proofs.Common.{◌≡◌, List, [], ◌∷◌, map, sym, refl, ap, ◌∙◌}
-use Rattle.vector.specs.declared.tables.Tables.{Tables}
+use Rattle.tables.specs.declared.Tables.{Tables}
 use Rattle.machine.specs.declared.event.Event.{Event}
 use Rattle.machine.specs.declared.event.Exchange.{Exchange}
 use Rattle.machine.specs.Runs.{Line, lines_of, events_of, lines}

@@ -8,7 +8,7 @@ use Rattle.std.proofs.lemmas.Bool.{ltb-true}
 use Rattle.std.proofs.lemmas.Bool.Decides.{nat_tests}
 use Rattle.std.proofs.lemmas.List.{take_all}
 use Rattle.std.proofs.lemmas.Fmt.{hex_byte}
-use Rattle.board.specs.Areas.{area, inside, loaded}
+use Rattle.board.specs.Areas.{area, inside, loaded, Area}
 use Rattle.xmscript.specs.Areas.{in_hex, area_bytes}
 use Rattle.xmscript.proofs.Appending.{appends-next}
 
@@ -27,7 +27,7 @@ there-cond false x = refl
 value-cond : (q : Bool) (x : ℕ) → q ≡ true → value (cond q (Some x) None) ≡ x
 value-cond q x e = ap (λ (z : Bool). value (cond z (Some x) None)) e
 
-module _ (ms : List (List ℕ)) (i at : ℕ) where
+module _ (ms : List Area) (i at : ℕ) where
   is_inside : there (loaded ms i at) ≡ inside ms i at
   is_inside = there-cond (inside ms i at) (get_or (area ms i) at 0)
 
@@ -48,7 +48,7 @@ hex-written u v b p o e f h x =
     let y : o ≡ Some (in_hex b) = f ∙ ap (option_map (padded_integral (format_spec 32 0 4 2 (2 ^ 64 - 1)) false [])) e ∙ ap Some (hex_byte false b h) in
     subst (λ (z : Option (List ℕ)). IfSome z (Appends u v)) y x
 
-module _ (u v : Option (List ℕ)) (ms : List (List ℕ)) (i at : ℕ) (x : Appends u v (flat_map in_hex (take at (area ms i)))) where
+module _ (u v : Option (List ℕ)) (ms : List Area) (i at : ℕ) (x : Appends u v (flat_map in_hex (take at (area ms i)))) where
   -- the next byte
   pub next-byte : (w : Option (List ℕ)) (b : ℕ) → loaded ms i at ≡ Some b → Appends v w (in_hex b) → Appends u w (flat_map in_hex (take (at + 1) (area ms i)))
   next-byte w b e y =

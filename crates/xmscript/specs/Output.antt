@@ -1,5 +1,6 @@
 -- What the program prints for an input: one of three things.
-use Rattle.std.specs.Prelude.{ℕ, List, codes, Some, None, Option}
+use Rattle.std.specs.Prelude.{ℕ, List, codes, IfSome, Some, None, Option}
+use Rattle.std.specs.Io.KnownBytes.{Appends}
 use Rattle.vector.specs.Reading.{Verdict, taken, refused, verdict, tables}
 use Rattle.machine.specs.declared.event.Event.{Event}
 use Rattle.machine.specs.Runs.{events_of}
@@ -21,3 +22,7 @@ script_text (Some s) wanted = verdict_text (verdict s.vector) s.vector (events_o
 
 abbrev pub output_of : List ℕ → Wanted → List ℕ
 output_of input wanted = script_text (said input) wanted
+
+-- what is written has grown by the output for the input, where the input is known
+abbrev pub Replies : Option (List ℕ) → Wanted → Option (List ℕ) → Option (List ℕ) → Type 0
+Replies input wanted old new = IfSome input (λ bytes. Appends old new (output_of bytes wanted))

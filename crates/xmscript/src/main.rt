@@ -2,17 +2,16 @@
 //! at the end.
 #![tactic(auto)]
 
-ghost use Rattle.std.specs.Prelude.{◌≡◌, ◌≤◌, true, OnOk, IfSome};
+ghost use Rattle.std.specs.Prelude.{◌≡◌, ◌≤◌, true, OnOk};
 ghost use Rattle.std.specs.List.{list_any};
-ghost use Rattle.std.specs.Io.KnownBytes.{Appends};
 ghost use Rattle.vector.specs.Reading.{takes, tables as tables_of};
-ghost use Rattle.machine.specs.Runs.{lines_of, events_of, lines};
-ghost use Rattle.machine.specs.Step.{boot as boot_of};
-ghost use Rattle.stage.specs.Layouts.{zeroed};
+ghost use Rattle.machine.specs.Runs.{lines_of, events_of};
+ghost use Rattle.zero_boards.specs.Layouts.{zeroed};
 ghost use Rattle.xmscript.specs.Words.{areas_of, is_areas, wanted_of};
 ghost use Rattle.xmscript.specs.Areas.{area_bytes, area_line, area_lines};
-ghost use Rattle.xmscript.specs.Boards.{answer_lines, board_text, boards_text};
-ghost use Rattle.xmscript.specs.Output.{output_of};
+ghost use Rattle.xmscript.specs.Boards.{answer_lines, told, board_text, boards_text};
+ghost use Rattle.xmscript.specs.Output.{Replies};
+ghost use Rattle.xmscript.specs.Printing.{Prints};
 
 use board::Board;
 use kernel::{System, run};
@@ -20,13 +19,13 @@ use machine::event::Exchange;
 use script::error::ScriptError;
 use script::line::{Line, Refused};
 use script::read_script;
-use stage::{fenced, paged};
 use std::alloc::Global;
 use std::io::{BufWriter, Read, Write};
 use std::{env, io};
+use tables::Tables;
 use vector::check;
 use vector::checked::Checked;
-use vector::tables::Tables;
+use zero_boards::{fenced, paged};
 
 /// No area is larger.
 const LARGEST: usize = 1024;
@@ -72,7 +71,7 @@ impl Wanted {
 
 /// Prints the bytes of a partition's area.
 fn show_bytes<B: Board, W: Write>(system: &System<B>, i: u8, writer: &mut W) -> io::Result<()>
-    ensures { OnOk result (Appends (W.contents writer.old) (W.contents writer.new) (area_bytes (B.areas system.now.board) i)) }
+    ensures { Prints W.contents writer.old writer.new result (area_bytes (B.areas system.now.board) i) }
 {
     for at in 0..LARGEST {
         let Some(byte) = system.byte(i, at) else {
@@ -85,7 +84,7 @@ fn show_bytes<B: Board, W: Write>(system: &System<B>, i: u8, writer: &mut W) -> 
 
 /// Prints the line of a partition's area.
 fn show_area<B: Board, W: Write>(system: &System<B>, i: u8, writer: &mut W) -> io::Result<()>
-    ensures { OnOk result (Appends (W.contents writer.old) (W.contents writer.new) (area_line (B.areas system.now.board) i)) }
+    ensures { Prints W.contents writer.old writer.new result (area_line (B.areas system.now.board) i) }
 {
     write!(writer, "area {i} ")?;
     show_bytes(system, i, writer)?;
@@ -94,7 +93,7 @@ fn show_area<B: Board, W: Write>(system: &System<B>, i: u8, writer: &mut W) -> i
 
 /// Prints the areas of the first `shown` partitions.
 fn show_areas<B: Board, W: Write>(system: &System<B>, shown: u8, writer: &mut W) -> io::Result<()>
-    ensures { OnOk result (Appends (W.contents writer.old) (W.contents writer.new) (area_lines (B.areas system.now.board) shown)) }
+    ensures { Prints W.contents writer.old writer.new result (area_lines (B.areas system.now.board) shown) }
 {
     // an area is shown and headed by its number, so the range is the iterator
     for i in 0..shown {
@@ -105,7 +104,7 @@ fn show_areas<B: Board, W: Write>(system: &System<B>, shown: u8, writer: &mut W)
 
 /// Prints what each event was answered.
 fn show_answers<W: Write>(history: &[Exchange], writer: &mut W) -> io::Result<()>
-    ensures { OnOk result (Appends (W.contents writer.old) (W.contents writer.new) (answer_lines (lines_of history.now))) }
+    ensures { Prints W.contents writer.old writer.new result (answer_lines (lines_of history.now)) }
 {
     for exchange in history {
         writer.writeln(Line(exchange.answer))?;
@@ -123,8 +122,9 @@ fn play<B: Board + Drop, W: Write>(
     shown: u8,
     writer: &mut W,
 ) -> io::Result<()>
-    ensures answered { lines_of history.new ≡ lines (tables_of vector.entry.bytes.now) (boot_of (tables_of vector.entry.bytes.now) (B.areas board)) (events_of history.old) }
-    ensures printed { OnOk result (Appends (W.contents writer.old) (W.contents writer.new) (board_text heading.now (tables_of vector.entry.bytes.now) (B.areas board) (events_of history.old) shown)) }
+    ensures answered { lines_of history.new ≡ told vector.entry.bytes.now (B.areas board) (events_of history.old) }
+    ensures printed { Prints W.contents writer.old writer.new result
+        (board_text heading.now (tables_of vector.entry.bytes.now) (B.areas board) (events_of history.old) shown) }
 {
     let system = run(vector, board, history);
     writer.writeln(heading)?;
@@ -141,8 +141,9 @@ fn play_each<W: Write>(
     writer: &mut W,
 ) -> io::Result<()>
     requires { takes bytes.now ≡ true }
-    ensures answered { lines_of history.new ≡ lines (tables_of bytes.now) (boot_of (tables_of bytes.now) (zeroed (tables_of bytes.now))) (events_of history.old) }
-    ensures printed { OnOk result (Appends (W.contents writer.old) (W.contents writer.new) (boards_text (tables_of bytes.now) (events_of history.old) wanted)) }
+    ensures answered { lines_of history.new ≡ told bytes.now (zeroed (tables_of bytes.now)) (events_of history.old) }
+    ensures printed { Prints W.contents writer.old writer.new result
+        (boards_text (tables_of bytes.now) (events_of history.old) wanted) }
 {
     let vector = Checked::new(bytes);
     let shown = wanted.areas(vector.shown());
@@ -160,7 +161,7 @@ fn play_script<R: Read, W: Write>(
     reader: &mut R,
     writer: &mut W,
 ) -> anyhow::Result<()>
-    ensures { OnOk result (IfSome (R.remaining reader.old) (λ input. Appends (W.contents writer.old) (W.contents writer.new) (output_of input wanted))) }
+    ensures { OnOk result (Replies (R.remaining reader.old) wanted (W.contents writer.old) (W.contents writer.new)) }
 {
     let mut input = Vec::new(alloc);
     reader.read_to_end(&mut input)?;

@@ -8,8 +8,8 @@ returns c =
     let k = c.args.clock.now in
     let h = c.requires.timely in
     record {
-      timely = (h.0, h.1, omega arith, omega arith);
+      timely = record { plan = h.plan; next = h.next; begun = omega arith; within = omega arith };
       is =
           ap (timed (clock_of c.args.t k.plan k.next k.start)) c.wake.ensures
-          ∙ sym (pass_in c.args.plans.now c.args.t k.time k.plan k.next k.start c.args.parts.now h.2 c.requires.ahead c.requires.within);
+          ∙ sym (pass_in c.args.plans.now c.args.t k.time k.plan k.next k.start c.args.parts.now h.begun c.requires.ahead c.requires.within);
     }

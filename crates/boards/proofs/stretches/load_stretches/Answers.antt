@@ -33,4 +33,7 @@ loop-done-preserved g c =
     ∙ ap (λ x. take k (drop x memory)) c.place-p.ensures
     ∙ stretch_is laws memory c.requires.whole i from k h (omega arith) in
     let long : length c.copy_from_slice.new.self ≡ k = c.copy_from_slice.ensures.len ∙ simp (length-take, length-drop) (omega arith) in
-    (omega arith, read_more a c.loop-done.into c.copy_from_slice.new.self c.args.at done k _ from c.loop-done.invariant.1 same long refl (omega arith))
+    record {
+      within = omega arith;
+      bytes = read_more a c.loop-done.into c.copy_from_slice.new.self c.args.at done k _ from c.loop-done.invariant.bytes same long refl (omega arith);
+    }

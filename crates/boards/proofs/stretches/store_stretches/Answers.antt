@@ -3,7 +3,8 @@ use Rattle.boards.proofs.Stretching.{begun, put_more, room, all_laid}
 use Rattle.boards.proofs.stretches.store_stretches.Goals as goal
 
 pub loop-done-init : goal.loop-done-init
-loop-done-init g c = (omega arith, begun (g.L.Layout.view c.args.layout.now c.args.memory.now) c.args.i c.args.at c.args.bytes.now)
+loop-done-init g c =
+    record { within = omega arith; areas = begun (g.L.Layout.view c.args.layout.now c.args.memory.now) c.args.i c.args.at c.args.bytes.now }
 
 pub overflow_add-at : goal.overflow_add-at
 overflow_add-at g c = omega (arith, c.requires.fits)
@@ -25,12 +26,14 @@ loop-done-preserved g c =
     let h : c.args.at + done < g.L.Layout.sizes c.args.layout.now i = omega (arith, c.requires.inside) in
     let e : done + k - done ≡ k = omega arith in
     let same : c.copy_from_slice.new.self ≡ take k (drop done c.args.bytes.now) =
-    c.copy_from_slice.ensures.after ∙ ap (λ n. take n (drop done c.args.bytes.now)) e in (
-      omega arith,
-      put_more laws c.args.memory.now c.requires.whole i c.args.at c.args.bytes.now c.loop-done.memory c.copy_from_slice.new.self done (c.args.at + done) c.place-p.result k _
-          (c.loop-done.auto.memory ∙ c.requires.whole) c.loop-done.invariant.1 same (omega arith) (omega arith) h c.place-p.ensures (omega arith) (omega arith),
-    )
+    c.copy_from_slice.ensures.after ∙ ap (λ n. take n (drop done c.args.bytes.now)) e in
+    record {
+      within = omega arith;
+      areas =
+          put_more laws c.args.memory.now c.requires.whole i c.args.at c.args.bytes.now c.loop-done.memory c.copy_from_slice.new.self done (c.args.at + done) c.place-p.result k _
+          (c.loop-done.auto.memory ∙ c.requires.whole) c.loop-done.invariant.areas same (omega arith) (omega arith) h c.place-p.ensures (omega arith) (omega arith);
+    }
 
 pub returns : goal.returns
 returns g c =
-    all_laid (g.L.Layout.view c.args.layout.now c.args.memory.now) _ c.args.i c.args.at c.loop-done.done c.args.bytes.now c.loop-done.invariant.1 (omega arith)
+    all_laid (g.L.Layout.view c.args.layout.now c.args.memory.now) _ c.args.i c.args.at c.loop-done.done c.args.bytes.now c.loop-done.invariant.areas (omega arith)

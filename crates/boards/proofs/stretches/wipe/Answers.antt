@@ -4,7 +4,8 @@ use Rattle.boards.proofs.Stretching.{begun, put_more, room, zeros, zeros_of, all
 use Rattle.boards.proofs.stretches.wipe.Goals as goal
 
 pub loop-at-init : goal.loop-at-init
-loop-at-init g c = (omega arith, begun (g.L.Layout.view c.args.layout.now c.args.memory.now) c.args.i 0 (zeros c.size-size.result))
+loop-at-init g c =
+    record { within = omega arith; areas = begun (g.L.Layout.view c.args.layout.now c.args.memory.now) c.args.i 0 (zeros c.size-size.result) }
 
 pub overflow_add-p : goal.overflow_add-p
 overflow_add-p g c =
@@ -30,13 +31,15 @@ loop-at-preserved g c =
     let ends = laws.ends c.args.i at (omega arith) in
     let r = room laws c.args.i at (omega arith) in
     let blank : c.fill.new.self ≡ zeros k = c.fill.ensures.after (λ y e. e) ∙ ap zeros (simp (length-take, length-drop) (omega arith)) in
-    let l = length-replicate {A = ℕ} c.size-size.result 0 in (
-      omega arith,
-      put_more laws c.args.memory.now c.requires c.args.i 0 (zeros c.size-size.result) c.loop-at.memory c.fill.new.self at at c.place-p.result k _ (omega arith)
-          c.loop-at.invariant.1 (blank ∙ zeros_of c.size-size.result at k (omega arith)) (omega arith) (omega arith) (omega arith) c.place-p.ensures (omega arith) (omega arith),
-    )
+    let l = length-replicate {A = ℕ} c.size-size.result 0 in
+    record {
+      within = omega arith;
+      areas =
+          put_more laws c.args.memory.now c.requires c.args.i 0 (zeros c.size-size.result) c.loop-at.memory c.fill.new.self at at c.place-p.result k _ (omega arith)
+          c.loop-at.invariant.areas (blank ∙ zeros_of c.size-size.result at k (omega arith)) (omega arith) (omega arith) (omega arith) c.place-p.ensures (omega arith) (omega arith);
+    }
 
 pub returns : goal.returns
 returns g c =
     let s = (g.L.Layout.laws c.args.layout.now).long c.args.memory.now c.requires c.args.i in
-    all_zeros (g.L.Layout.view c.args.layout.now c.args.memory.now) _ c.args.i c.size-size.result c.loop-at.at c.loop-at.invariant.1 (omega arith) (omega arith)
+    all_zeros (g.L.Layout.view c.args.layout.now c.args.memory.now) _ c.args.i c.size-size.result c.loop-at.at c.loop-at.invariant.areas (omega arith) (omega arith)

@@ -1,7 +1,5 @@
 use Rattle.std.proofs.Common.{arith}
-use Rattle.vector.proofs.Fairness.{takes-fair}
 use Rattle.kernel.proofs.Going.{onward, over}
-use Rattle.kernel.proofs.Grounding.{takes-lawful}
 use Rattle.kernel.proofs.Keeping.{isolating, preserving, lawful}
 use Rattle.kernel.proofs.history.play.Goals as goal
 
@@ -11,11 +9,11 @@ loop-exchange-preserved g c = onward _ _ _ _ _ _ _ _ (omega arith) c.event-excha
 pub returns : goal.returns
 returns g c =
     let z = over _ _ _ _ _ _ _ c.boot-system.ensures.is (omega arith) c.loop-exchange.invariant in
-    let w = takes-lawful c.args.vector.bytes.now c.args.vector.ok in
+    let k = c.boot-system.ensures.kept in
     record {
       ends = z.0;
       told = z.1;
-      isolated = isolating _ _ _ _ _ (takes-fair c.args.vector.bytes.now c.args.vector.ok) z.0 z.1;
+      isolated = isolating _ _ _ _ _ k.3 z.0 z.1;
       preserved = preserving _ _ _ _ z.0;
-      lawful = lawful _ w.0 w.1 _ _ _ z.0;
+      lawful = lawful _ k.0 k.1 _ _ _ z.0;
     }

@@ -1,6 +1,6 @@
 use Rattle.std.proofs.Common.{sym, arith}
 use Rattle.vector.specs.Bodies.{said_of}
-use Rattle.vector.specs.Frames.{framed_of}
+use Rattle.frame.specs.Frames.{framed_of}
 use Rattle.vector.proofs.Cuts.{cut_off}
 use Rattle.vector.proofs.Heard.{heard-ready, heard-room}
 use Rattle.vector.proofs.reader.Records.next_record.Goals as goal

@@ -1,0 +1,14 @@
+use Rattle.std.proofs.Common.{sym, ap, ◌∙◌, rules}
+use Rattle.board.specs.Areas.{area}
+use Rattle.tables.specs.declared.channel.ChannelKind.TheVariants.{Queuing}
+use Rattle.kernel.specs.World.{world_of, core_of, settled}
+use Rattle.kernel.proofs.Sending.{unsent}
+use Rattle.kernel.proofs.system.System.send_queuing_message.Goals as goal
+
+pub returns-in_err-channel-clause-is : goal.returns-in_err-channel-clause-is
+returns-in_err-channel-clause-is g c =
+    let s = c.args.self.now in
+    let x = core_of s.core in
+    let a = area (g.B.Board.areas s.board) c.args.q in
+    let no = unsent Queuing s.core.config.tables x a c.args.q c.args.args _ c.in_err-channel.field-0.0 (sym c.in_err-channel.ensures.is) in
+    search rules ∙ ap (λ o. settled c.args.q o (world_of g.B.Board.areas s)) (sym no)

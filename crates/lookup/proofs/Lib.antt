@@ -1,3 +1,0 @@
-pub mod Finding
-pub mod Marking
-pub mod Masking

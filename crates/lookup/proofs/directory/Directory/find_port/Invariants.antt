@@ -1,8 +1,0 @@
-use Rattle.lookup.proofs.Finding.{Left}
-use Rattle.lookup.proofs.directory.Directory.find_port.Given as goal
-
-abbrev pub invariant-loop-i : goal.invariant-loop-i
-invariant-loop-i l = Left l.self.tables.now l.q l.fn.kind l.name l.left
-
-abbrev pub decreases-loop-i : goal.decreases-loop-i
-decreases-loop-i l = l.left

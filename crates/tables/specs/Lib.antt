@@ -1,0 +1,10 @@
+pub mod Blank
+pub mod Tables
+pub mod Numbers
+pub mod Bits
+pub mod Names
+pub mod Events
+pub mod Rows
+pub mod Sound
+pub mod Fair
+pub mod Laws
