@@ -1,7 +1,7 @@
 // An index of the ports, so that no event looks through all of them.
-ghost use Rattle.std.specs.Prelude.{◌≡◌, ◌<◌, slice_index};
+ghost use Rattle.std.specs.Prelude.{◌≡◌, ◌<◌};
 ghost use Rattle.tables.specs.Sound.{SoundPorts};
-ghost use Rattle.config.specs.Index.{Indexed, owned, marked, added};
+ghost use Rattle.config.specs.Index.{Indexed, marked, added};
 
 use crate::ports::is_source;
 use tables::{ChannelKind, Port, Tables};
@@ -10,14 +10,15 @@ use tables::{ChannelKind, Port, Tables};
 /// its destinations.
 #[derive(Clone, Copy)]
 pub(crate) struct Index {
-    sampling: [u32; 8],
-    queuing: [u32; 8],
-    hearing: [u32; 8],
+    pub(crate) sampling: [u32; 8],
+    pub(crate) queuing: [u32; 8],
+    pub(crate) hearing: [u32; 8],
 }
 
 /// Sets the bit i in a row's word, where the test holds.
 fn mark(words: &mut [u32; 8], row: u8, i: usize, test: bool)
-    requires { (row < 8) × (i < 32) }
+    requires row { row < 8 }
+    requires bit { i < 32 }
     ensures { words.new ≡ marked test row i words.old }
 {
     if test {
@@ -28,7 +29,8 @@ fn mark(words: &mut [u32; 8], row: u8, i: usize, test: bool)
 impl Index {
     /// Takes the port i in, which is on a channel of this type.
     fn add(&mut self, i: usize, port: &Port, kind: ChannelKind)
-        requires rows { (port.now.partition < 8) × (port.now.channel < 8) }
+        requires partition { port.now.partition < 8 }
+        requires channel { port.now.channel < 8 }
         requires bit { i < 32 }
         ensures { self.new ≡ added i port.now kind self.old }
     {
@@ -59,23 +61,5 @@ impl Index {
             index.add(i, port, kind);
         }
         index
-    }
-
-    /// The ports of q on channels of this type.
-    pub(crate) fn ports_of(&self, q: u8, kind: ChannelKind) -> u32
-        ensures { result ≡ slice_index (owned self.now kind) q }
-    {
-        let words = match kind {
-            ChannelKind::Sampling => &self.sampling,
-            ChannelKind::Queuing => &self.queuing,
-        };
-        words.get(usize::from(q)).copied().unwrap_or(0)
-    }
-
-    /// The destinations of channel c.
-    pub(crate) fn hearing(&self, c: u8) -> u32
-        ensures { result ≡ slice_index self.now.hearing c }
-    {
-        self.hearing.get(usize::from(c)).copied().unwrap_or(0)
     }
 }

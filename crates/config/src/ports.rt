@@ -18,13 +18,16 @@ pub(crate) fn is_source(direction: Direction) -> bool
 }
 
 impl Config {
-    // This function and `hearing` stay beside those of the index that they ask: the index does not know the tables. That its masks
-    // say what the tables say is the configuration's invariant.
+    // That the masks of the index say what the tables say is the configuration's invariant.
     /// The ports of q on channels of this type: bit i is set where port i is one.
     fn ports_of(&self, q: u8, kind: ChannelKind) -> u32
         ensures { (i : ℕ) → has_bit result i ≡ owns self.now.tables q kind i }
     {
-        self.index.ports_of(q, kind)
+        let words = match kind {
+            ChannelKind::Sampling => &self.index.sampling,
+            ChannelKind::Queuing => &self.index.queuing,
+        };
+        words.get(usize::from(q)).copied().unwrap_or(0)
     }
 
     /// Whether i is a port of q on a channel of this type.
@@ -38,7 +41,7 @@ impl Config {
     pub fn hearing(&self, c: u8) -> u32
         ensures { (i : ℕ) → has_bit result i ≡ listens self.now.tables c i }
     {
-        self.index.hearing(c)
+        self.index.hearing.get(usize::from(c)).copied().unwrap_or(0)
     }
 
     /// Whether a port that is there has this name.
