@@ -4,7 +4,7 @@
 
 ghost use Rattle.std.specs.Prelude.{◌≡◌};
 ghost use Rattle.tables.specs.Fair.{Fair};
-ghost use Rattle.tables.specs.Laws.{Kept, SlotsInPlace};
+ghost use Rattle.tables.specs.Laws.{SlotsInPlace};
 ghost use Rattle.tables.specs.Sound.{Sound};
 ghost use Rattle.config.specs.Index.{Indexed};
 ghost use Rattle.config.specs.Slotless.{Gapped};
@@ -44,7 +44,9 @@ impl Config {
     // Run once: out of line, so that no event's code is laid out around it.
     #[inline(never)]
     pub fn new(tables: Tables) -> Config
-        requires { Kept tables }
+        requires sound { Sound tables }
+        requires fair { Fair tables }
+        requires slots { SlotsInPlace tables }
         ensures { result.tables ≡ tables }
     {
         let index = Index::of(&tables);
