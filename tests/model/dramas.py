@@ -5,7 +5,7 @@ from __future__ import annotations
 import encode
 from calls import CALL_COUNT
 from events import Call, Fault, Line, Load, Store, SystemFault, Tick
-from machine import FURTHEST_TICK
+from machine import FARTHEST
 from stage import Stage
 from vector import ChannelType
 
@@ -615,8 +615,8 @@ def time_goes_far(stage: Stage) -> None:
     """A long way at once: frames and plans pass, an idle partition wakes."""
     stage.call_by(S, 7, 1)
     stage.call_by(A, 6)
-    stage.send(Tick(stage.system.now + FURTHEST_TICK + 1))
-    stage.send(Tick(stage.system.now + FURTHEST_TICK))
+    stage.send(Tick(stage.system.now + FARTHEST + 1))
+    stage.send(Tick(stage.system.now + FARTHEST))
     inspect(stage)
 
 

@@ -17,7 +17,7 @@ from state import (FAULT_BIT, FIRST_LINE_BIT, MEM_PROTECTION, PARTITION_ERROR, A
                    LogEntry, Message, Mode, Partition, State)
 from vector import SYSTEM_EVENTS, SYSTEM_SCOPE, Decision, Offset, Tables
 
-FURTHEST_TICK: Time = 1_000_000  # ahead of now
+FARTHEST: Time = 1_000_000  # ahead of now
 LOG_LENGTH = 32
 LINES = 16
 
@@ -95,7 +95,7 @@ class System:
     def tick(self, time: Time) -> Answer:
         if time < self.now:
             raise Refused(Refusal.WRONG_TIME, "tick before now")
-        if time > self.now + FURTHEST_TICK:
+        if time > self.now + FARTHEST:
             raise Refused(Refusal.WRONG_TIME, "tick too far ahead")
         while self.now != time:
             self.pass_microsecond()

@@ -10,7 +10,7 @@ from random import Random
 from calls import CALL_COUNT
 from events import Call, Event, Fault, Line, Load, Store, SystemFault, Tick
 from limits import WHOLE, Limits
-from machine import FURTHEST_TICK
+from machine import FARTHEST
 from stage import Stage
 from state import State
 from vector import ChannelType, Direction
@@ -117,10 +117,10 @@ class Player(Stage):
         frame = self.tables.plans[system.plan].frame
         end = system.frame_start + frame
         moments = [system.now, system.now + 1, system.now - 1, system.now - 1, end, end - 1, end + 1,
-                   system.now + FURTHEST_TICK + 1, WORD, 0, system.now + frame,
+                   system.now + FARTHEST + 1, WORD, 0, system.now + frame,
                    system.now + self.rng.randint(0, 3 * frame)]
         moment = self.rng.choice(moments) & WORD
-        if system.now <= moment <= system.now + FURTHEST_TICK and moment > self.latest:
+        if system.now <= moment <= system.now + FARTHEST and moment > self.latest:
             moment = system.now
         self.send(Tick(moment))
 

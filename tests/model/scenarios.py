@@ -14,7 +14,7 @@ from dramas import DRAMAS, FOUR
 from encode import Record
 from events import Call, Event, Fault, Line, Load, Store, SystemFault, Tick
 from limits import Limits
-from machine import FURTHEST_TICK
+from machine import FARTHEST
 from script import LONGEST_SCRIPT
 from stage import Stage
 
@@ -245,9 +245,9 @@ def worked_example(stage: Stage) -> None:
 
 
 def ticks_of_every_length(stage: Stage) -> None:
-    for time in (0, 0, 1, 5, 5, 4, 0, 999, 1_000, 1_001, 2_000, 2_000 + FURTHEST_TICK + 1,
-                 WORD, 0x8000_0000, 2_000 + FURTHEST_TICK, 2_000 + FURTHEST_TICK - 1,
-                 2_001 + 2 * FURTHEST_TICK):
+    for time in (0, 0, 1, 5, 5, 4, 0, 999, 1_000, 1_001, 2_000, 2_000 + FARTHEST + 1,
+                 WORD, 0x8000_0000, 2_000 + FARTHEST, 2_000 + FARTHEST - 1,
+                 2_001 + 2 * FARTHEST):
         stage.send(Tick(time))
         stage.call(0, 0)
 

@@ -8,7 +8,7 @@ from __future__ import annotations
 
 from events import Answer, Call, Event, Store, Tick
 from limits import WHOLE, Limits
-from machine import FURTHEST_TICK, System, boot
+from machine import FARTHEST, System, boot
 from state import State
 from vector import check
 
@@ -34,7 +34,7 @@ class Stage:
     def tick_by(self, microseconds: int) -> None:
         """Lets time pass, in several ticks if one cannot reach so far."""
         while microseconds > 0:
-            part = min(microseconds, FURTHEST_TICK)
+            part = min(microseconds, FARTHEST)
             self.send(Tick(self.system.now + part))
             microseconds -= part
 

@@ -17,7 +17,7 @@ from design import design
 from dramas import DRAMAS, FOUR
 from events import ORDER, Call, Event, Fault, Line, Load, Store, SystemFault, Tick, in_words
 from limits import WHOLE
-from machine import FURTHEST_TICK, System
+from machine import FARTHEST, System
 from player import Player
 from stage import Stage
 from state import State
@@ -32,7 +32,7 @@ def causes(system: System, event: Event) -> Iterator[int]:
         yield -10
     match event:
         case Tick(time):
-            if time < system.now or time > system.now + FURTHEST_TICK:
+            if time < system.now or time > system.now + FARTHEST:
                 yield -8
         case Line(line):
             if line > 15:

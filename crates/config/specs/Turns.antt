@@ -48,7 +48,7 @@ abbrev pub no_turn : Turn
 no_turn = record { holder = None; until = 0; slot = 0 }
 
 -- the turn at the offset o of the plan of a number; past the last plan it is nobody's
-abbrev pub turn_at : Tables → ℕ → ℕ → Turn
+abbrev pub turn_at : Tables → ℕ → Offset → Turn
 turn_at k p o = if nat_lt p k.plans.count then turn_of (plan k p) o else no_turn
 
 -- the turn is right at the offset o, and up to its end

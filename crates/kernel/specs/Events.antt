@@ -16,6 +16,7 @@ use Rattle.machine.specs.Ports.{posted}
 use Rattle.machine.specs.State.{Out}
 use Rattle.machine.specs.State.{Core as Machine}
 use Rattle.machine.specs.Step.{fault, later, load, store, system_fault, tick}
+use Rattle.machine.specs.Time.{Time}
 use Rattle.kernel.specs.Channels.{chan_of}
 use Rattle.kernel.specs.World.{core_of, gives, performed, settled, with_core, world_of}
 use Rattle.kernel.specs.declared.system.System.{System}
@@ -48,11 +49,11 @@ module _ {B : Type 0} where
       Settles m q (strayed old.core.config.tables (core_of old.core) q) old (answer_reply Outside) new
 
   -- a tick to the time t
-  abbrev pub Ticks : (B → List Area) → ℕ → System B → Result Answer Refusal → System B → Type 0
+  abbrev pub Ticks : (B → List Area) → Time → System B → Result Answer Refusal → System B → Type 0
   Ticks m t old r new = Settles m 0 (tick old.core.config.tables (core_of old.core) t) old (reply_of r) new
 
   -- the microseconds up to the time t pass
-  abbrev pub Passes : (B → List Area) → ℕ → System B → System B → Type 0
+  abbrev pub Passes : (B → List Area) → Time → System B → System B → Type 0
   Passes m t old new =
       Becomes m (later old.core.config.tables (t - old.core.clock.time) (core_of old.core)) old new
 
