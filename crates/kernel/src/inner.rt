@@ -5,6 +5,8 @@ use config::{Config, Turn};
 use machine::clock::Clock;
 use machine::partition::Partition;
 
+/// What the vector decides and what events change: the plan position, whose turn it is, whether the system is halted, the
+/// partitions, the messages and the log.
 #[derive(Drop)]
 pub struct Core {
     pub(crate) config: Config,

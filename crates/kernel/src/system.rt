@@ -16,6 +16,7 @@ use machine::partition::Partition;
 use tables::ChannelKind;
 use vector::checked::Checked;
 
+/// A booted core on its board. Events change it, by `event` alone.
 #[derive(Drop)]
 pub struct System<B> {
     pub(crate) board: B,

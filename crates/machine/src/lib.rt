@@ -1,4 +1,4 @@
-//! The machine: its vocabulary in plain types, and in specs/ its rules and what is proved of them.
+//! The machine: the types that its rules name, and in specs/ the rules and what is proved of them.
 #![tactic(auto)]
 
 pub mod answer;

@@ -28,7 +28,7 @@ impl Slot {
         }
     }
 
-    /// The offset at which it ends; a sum of two 32-bit numbers.
+    /// The offset in microseconds at which it ends; a sum of two 32-bit numbers.
     pub fn end(&self) -> u64
         ensures { result ≡ slot_end self.now }
     {
@@ -53,7 +53,7 @@ impl Plan {
         }
     }
 
-    /// Where the last slot ends; 0 while there is none.
+    /// The offset in microseconds at which the last slot ends; 0 while there is none.
     pub fn end(&self) -> u64
         ensures { result ≡ end_of self.now }
     {

@@ -5,6 +5,7 @@ ghost use Rattle.tables.specs.Rows.{no_port};
 
 use crate::name::Name;
 
+/// Whether messages leave the partition by the port or come to it; 0 and 1 in a record.
 #[derive(Clone, Copy, Debug, PartialEq, Eq)]
 pub enum Direction {
     Source,

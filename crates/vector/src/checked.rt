@@ -43,6 +43,8 @@ impl<'a> Checked<'a> {
         &self.tables
     }
 
+    /// The tables that the bytes give, and what is true of those of every vector that is taken: all that the core knows of a
+    /// vector. It spends the value.
     pub fn tables(self) -> Tables
         ensures value { result ≡ tables_of self.entry.bytes.now }
         ensures sound { Sound result }

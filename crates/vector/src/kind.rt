@@ -7,6 +7,7 @@ ghost use Rattle.vector.specs.Turns.{ends, follows};
 
 use tables::UnknownNumber;
 
+/// The kinds of records, in the order of their numbers, 1 to 9.
 #[derive(Clone, Copy, Debug, PartialEq, Eq)]
 pub enum Kind {
     Header,

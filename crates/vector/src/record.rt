@@ -8,6 +8,7 @@ pub struct NameIn<'a> {
     pub at: usize,
 }
 
+/// What a record says, each number in the range that its field allows; a name is shown as a part of the vector.
 #[derive(Clone, Copy, Debug, PartialEq, Eq)]
 pub enum Record<'a> {
     Header {

@@ -4,6 +4,7 @@ ghost use Rattle.std.specs.Prelude.{◌≡◌};
 ghost use Rattle.vector.specs.Reasons.{reason};
 ghost use Rattle.vector.specs.declared.refusal.Refusal.TheVariants.{Frame, Field, Relation};
 
+/// A record cannot be cut off the bytes, or does not belong where it stands; `at` is its place.
 #[derive(Clone, Copy, Debug, PartialEq, Eq)]
 pub enum FrameFault {
     /// A record passes the end of the vector.
@@ -16,11 +17,13 @@ pub enum FrameFault {
     Owed { at: usize },
 }
 
+/// A field is out of its range; `at` is the place of its first byte.
 #[derive(Clone, Copy, Debug, PartialEq, Eq)]
 pub enum FieldFault {
     OutOfRange { at: usize },
 }
 
+/// A record does not go with those before it; `at` is the place of its first byte.
 #[derive(Clone, Copy, Debug, PartialEq, Eq)]
 pub enum RelationFault {
     TooMany { at: usize },
@@ -29,6 +32,7 @@ pub enum RelationFault {
     Misplaced { at: usize },
 }
 
+/// Why a vector is refused, by the layer that found it.
 // Three types and not one reason with a place: each layer passes its own faults up whole, by `?`.
 #[derive(Clone, Copy, Debug, PartialEq, Eq)]
 pub enum Refusal {
@@ -37,6 +41,7 @@ pub enum Refusal {
     Relation(RelationFault),
 }
 
+/// The layers of the check, in the order in which a record passes them.
 #[derive(Clone, Copy, Debug, PartialEq, Eq)]
 pub enum Layer {
     Frame,
@@ -70,6 +75,7 @@ impl From<RelationFault> for Refusal {
 
 impl Refusal {
     // C reads refusals by these numbers.
+    /// The number of the refusal: 12 to 16 of the frame, 21 of a field, 31 to 33 of a relation.
     pub fn number(&self) -> u32
         ensures { result ≡ (reason self.now).number }
     {
@@ -86,6 +92,7 @@ impl Refusal {
         }
     }
 
+    /// The layer that found the fault.
     pub fn layer(&self) -> Layer
         ensures { result ≡ (reason self.now).layer }
     {
