@@ -116,17 +116,17 @@ none k x e = subst (Partly k 0) (sym e) record { sampling = blank (kept k Sampli
 pub taken : (k : Tables) (n : ℕ) (x y : Index) → SoundPorts k.ports → n < k.ports.count → y ≡ added n (port k n) (channel k n).kind x →
     Partly k n x → Partly k (n + 1) y
 taken k n x y j l e m =
-    let b = j.1 n l in
+    let b = j.each n l in
     subst (Partly k (n + 1)) (sym e)
     record {
-      sampling = more (kept k Sampling) n _ _ x.sampling b.0 (λ r. refl) m.sampling;
-      queuing = more (kept k Queuing) n _ _ x.queuing b.0 (λ r. refl) m.queuing;
-      hearing = more (hears k) n _ _ x.hearing b.1 (λ r. refl) m.hearing;
+      sampling = more (kept k Sampling) n _ _ x.sampling b.partition (λ r. refl) m.sampling;
+      queuing = more (kept k Queuing) n _ _ x.queuing b.partition (λ r. refl) m.queuing;
+      hearing = more (hears k) n _ _ x.hearing b.channel (λ r. refl) m.hearing;
     }
 
 -- all of them
 pub all : (k : Tables) (x : Index) → Partly k k.ports.count x → Indexed k x
-all k x m = (λ t. words t, m.hearing.bits)
+all k x m = record { owned = words; hearing = m.hearing.bits }
   where
     words : (t : ChannelKind) (q i : ℕ) → has_bit (get_or (owned x t) q 0) i ≡ owns k q t i
     words Sampling = m.sampling.bits

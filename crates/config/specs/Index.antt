@@ -19,10 +19,9 @@ listens k c i = nat_lt i k.ports.count && hears k c i
 
 -- Bit i says whether i is a port of the partition on a channel of the type, and whether it is a destination of the channel. Past the
 -- last word, where no bit is set, there is no such partition or channel.
-abbrev pub Indexed : Tables → Index → Type 0
-Indexed k x =
-    ((t : ChannelKind) (q i : ℕ) → has_bit (slice_index (owned x t) q) i ≡ owns k q t i)
-    × ((c i : ℕ) → has_bit (slice_index x.hearing c) i ≡ listens k c i)
+pub record Indexed (k : Tables) (x : Index) : Type 0 where
+  pub owned : (t : ChannelKind) (q i : ℕ) → has_bit (slice_index (owned x t) q) i ≡ owns k q t i
+  pub hearing : (c i : ℕ) → has_bit (slice_index x.hearing c) i ≡ listens k c i
 
 -- a row's word with one bit more, where the test holds
 abbrev pub marked : Bool → ℕ → ℕ → List ℕ → List ℕ
@@ -30,7 +29,7 @@ marked test row i ws = cond test (slice_set ws row (bit_or (slice_index ws row) 
 
 -- the index with a port more, which is on a channel of this type
 abbrev pub added : ℕ → Port → ChannelKind → Index → Index
-added i p t x = record {
+added i p t x = record x {
   sampling = marked (same_kind t Sampling) p.partition i x.sampling;
   queuing = marked (same_kind t Queuing) p.partition i x.queuing;
   hearing = marked (not (is_source p.direction)) p.channel i x.hearing;

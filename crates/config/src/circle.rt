@@ -21,7 +21,8 @@ fn join(test: bool, q: Guest, mask: u8) -> u8
 impl Config {
     /// Whether port i is a source and port j a destination of one channel.
     fn is_feeding(&self, i: usize, j: usize) -> bool
-        requires { (i < 32) × (j < 32) }
+        requires i { i < 32 }
+        requires j { j < 32 }
         ensures { result ≡ feeds self.now.tables i j }
     {
         let source = &self.tables.ports.rows[i];

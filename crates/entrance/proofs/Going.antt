@@ -74,8 +74,10 @@ module _ (z : World) (records old : List ℕ) (w : World) (rest new : List ℕ) 
   )
 
   -- how the records end, the bytes and the world
-  abbrev pub Ends : Ending → Type 0
-  Ends e = (e ≡ records_end (read_of records) (room_in old)) × (new ≡ written z (read_of records) old) × (w ≡ reached z (read_of records) old)
+  pub record Ends (e : Ending) : Type 0 where
+    pub ending : e ≡ records_end (read_of records) (room_in old)
+    pub bytes : new ≡ written z (read_of records) old
+    pub world : w ≡ reached z (read_of records) old
 
   -- .. so it is where no event is left to read, whole or not
   none_left : (b : Bool) → read_of rest ≡ record { events = []; whole = b } → Ends (cond b (answered count) malformed)
@@ -84,7 +86,7 @@ module _ (z : World) (records old : List ℕ) (w : World) (rest new : List ℕ) 
       let n : length (read_of records).events ≡ count = omega (arith, ap (λ (q : Read). length q.events) q, u.counts) in
       let t = le-leb count (room_in old) u.fits in
       let s = stands (ap (λ (q : Read). take (room_in old - count) q.events) q ∙ take_all (room_in old - count) [] (omega arith)) in
-      (rw (y, n, t), s.0, s.1)
+      record { ending = rw (y, n, t); bytes = s.0; world = s.1 }
 
   pub over : true ≡ nat_eq (length rest) 0 → Ends (answered count)
   unfolding read_after
@@ -100,4 +102,4 @@ module _ (z : World) (records old : List ℕ) (w : World) (rest new : List ℕ) 
       let t = lt-leb (length (read_of records).events) (room_in old) n in
       let m : room_in old - count ≡ 0 = omega arith in
       let b = stands (ap (λ (n : ℕ). take n (read_of rest).events) m) in
-      (rw t, b.0, b.1)
+      record { ending = rw t; bytes = b.0; world = b.1 }

@@ -97,4 +97,4 @@ events_of bs = events_after 0 bs
 -- a record is cut off with its event, and what comes after it is the rest
 abbrev pub Splits : List ℕ → Option Cut → Type 0
 Splits bs None = first bs ≡ None
-Splits bs (Some c) = (first bs ≡ Some c.event) × (c.rest.now ≡ beyond 4 bs)
+Splits bs (Some c) = record { event : first bs ≡ Some c.event; rest : c.rest.now ≡ beyond 4 bs }

@@ -53,16 +53,19 @@ onward z h w v i g r d b e u =
 
 pub over : (k : Tables) (ms : List Area) (z : World) (h : List Exchange) (w : World) (i : ℕ) (g : List Exchange) →
     z ≡ booted k ms → length g ≤ i → Underway z h w i g →
-    (w ≡ ended k ms (events_of h)) × (lines_of g ≡ lines k (boot k ms) (events_of h))
+    record { ends : w ≡ ended k ms (events_of h); told : lines_of g ≡ lines k (boot k ms) (events_of h) }
 unfolding after lines
 over k ms z h w i g e b u =
     let c = drop_all i g b in
     let s : w.state ≡ after z.tables z.state (events_of h) =
-    ap (λ (l : List Exchange). after z.tables w.state (events_of l)) (sym c) ∙ u.state in (
-      ap₂ (λ (k : Tables) (s : State). record { tables = k; state = s }) u.tables s
-          ∙ ap (λ (z : World). record { tables = z.tables; state = after z.tables z.state (events_of h) }) e,
-      sym (append-nil (lines_of g))
+    ap (λ (l : List Exchange). after z.tables w.state (events_of l)) (sym c) ∙ u.state in
+    record {
+      ends =
+          ap₂ (λ (k : Tables) (s : State). record { tables = k; state = s }) u.tables s
+          ∙ ap (λ (z : World). record { tables = z.tables; state = after z.tables z.state (events_of h) }) e;
+      told =
+          sym (append-nil (lines_of g))
           ∙ (ap (λ (p : List Exchange). lines_of p ++ []) (sym (take_all i g b))
           ∙ (ap (λ (l : List Exchange). lines_of (take i g) ++ lines z.tables w.state (events_of l)) (sym c)
-          ∙ (u.told ∙ ap (λ (z : World). lines z.tables z.state (events_of h)) e))),
-    )
+          ∙ (u.told ∙ ap (λ (z : World). lines z.tables z.state (events_of h)) e)));
+    }

@@ -8,5 +8,5 @@ use Rattle.clock.specs.Timely.{Timely}
 -- it starts within the first plan's frame
 pub started : (t : Tables) → Sound t → Timely t.plans (clock_of 0 0 0 0)
 started t s =
-    let f = (s.2.2 0 (omega (arith, s.2.0))).0 in
-    record { plan = omega (arith, s.2.0); next = omega (arith, s.2.0); begun = omega arith; within = omega (arith, f) }
+    let f = (s.plans.each 0 (omega (arith, s.plans.some))).some in
+    record { plan = omega (arith, s.plans.some); next = omega (arith, s.plans.some); begun = omega arith; within = omega (arith, f) }

@@ -46,7 +46,7 @@ last-sight p M k (e ∷ es) s d = one (kept k M e) _ _ _ (last-sight p M k es (s
 
 pub isolating : (k : Tables) (ms : List Area) (h : List Event) (ls : List Line) (w : World) → Fair k → w ≡ ended k ms h → ls ≡ lines k (boot k ms) h → Isolating k ms h ls w.state
 isolating k ms h ls w n e f p x y M c ns l a b z i q =
-    let v = isolated k n.2 n.3 ms h p x y M c ns l a b z i q in (
+    let v = isolated k n.source n.destination ms h p x y M c ns l a b z i q in (
       ap (picked k p) f ∙ (picked_all p k h (boot k ms) ∙ ap (λ (v : Sheet). v.told) v),
       ap (λ (u : World). sight p u.state) e
           ∙ (sym (last-sight p M k h (boot k ms) (sight p (boot k ms)))
@@ -75,7 +75,7 @@ lasting-by w v e r m s = subst (λ (u : Moved). Steady u.tables u.result.state.c
 module _ (k : Tables) (f : Sound k) (l : vector.Lawful k) where
   lawful-steady : (x : Core) → Steady k x → Lawful k x
   lawful-steady x r =
-      let p = r.plans f.2.0 in
+      let p = r.plans f.plans.some in
       record {
         bounded = r.bounded;
         plans = p;

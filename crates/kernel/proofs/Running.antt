@@ -14,5 +14,5 @@ use Rattle.config.specs.Turns.{Current}
 pub there : (k : Tables) (c : Clock) (t : Turn) (q : ℕ) → SlotsInPlace k → c.plan < k.plans.count → Current k.plans c t → t.holder ≡ Some q → exists k q ≡ true
 there k c t q s p h e =
     let f = (held (plan_at k.plans c.plan) (c.time - c.start)).found q (sym h.holder ∙ e) in
-    let l = ((s c.plan p).1 f.0 f.1.0.there).partition in
+    let l = ((s c.plan p).each f.0 f.1.0.there).partition in
     lt-ltb q k.partitions.count (subst (λ n. n < k.partitions.count) f.1.1 l)

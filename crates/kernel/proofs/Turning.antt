@@ -93,14 +93,14 @@ calm_passed ps k qs t u h f l m =
 -- as long as the frame's start stays, its plan does
 pub same_plan : (ps : Plans) (k m : Clock) (qs rs : List Partition) (t : ℕ) →
     k.start ≤ k.time → k.time < k.start + (plan_at ps k.plan).frame → 0 < (plan_at ps k.plan).frame → 0 < (plan_at ps k.next).frame → k.time ≤ t →
-    timed m rs ≡ micros ps (t - k.time) (timed k qs) → m.start ≡ k.start → (m.plan ≡ k.plan) × (k.time ≤ m.time)
+    timed m rs ≡ micros ps (t - k.time) (timed k qs) → m.start ≡ k.start → record { plan : m.plan ≡ k.plan; later : k.time ≤ m.time }
 same_plan ps k m qs rs t f h z y l e s =
     let w = (plan_at ps k.plan).frame in
     let clock : Timed → Clock = λ x. x.clock in
     elim (cases_lt (t - k.start) w) [
       | inl p ↦
           let g : m ≡ clock_of t k.plan k.next k.start = ap clock (e ∙ pass_in ps t k.time k.plan k.next k.start qs f l p) in
-          (ap (λ (c : Clock). c.plan) g, omega (arith, l, ap (λ (c : Clock). c.time) g))
+          record { plan = ap (λ (c : Clock). c.plan) g; later = omega (arith, l, ap (λ (c : Clock). c.time) g) }
       | inr p ↦
           let r = t - k.start - w in
           let g : m.start ≡ t - r % (plan_at ps k.next).frame = ap (λ (x : Timed). x.clock.start) (e ∙ pass-over ps t k.time k.plan k.next k.start qs f h y p) in

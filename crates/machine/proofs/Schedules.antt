@@ -36,14 +36,14 @@ single k x q r g h = some_inj q r (sym (scheduled k x q g).slot ∙ (scheduled k
 
 -- slots do not overlap
 pub apart : (k : Tables) (i : ℕ) → Lawful k → i < k.plans.count → Apart (plan k i)
-apart k i w h a b l m = ((w.slots i h).1 b m).ascends a l
+apart k i w h a b l m = ((w.slots i h).each b m).ascends a l
 
 pub served : (k : Tables) (x : Core) → Lawful k → PlansThere k x → Served k x
 served k x w h q j r e =
     let p = plan k x.clock.plan in
     let o = x.clock.time - x.clock.start in
     let s = (held p o).any (apart k x.clock.plan w h.0) j r.0 in
-    let t = ((w.slots x.clock.plan h.0).1 j r.0.there).partition in
+    let t = ((w.slots x.clock.plan h.0).each j r.0.there).partition in
     and_from (exists k q) _ (lt-ltb _ _ (omega (arith, t, r.1)))
     (and_from (turn k x q) _
     (ap (λ h. names h q) s ∙ eq-eqb _ _ r.1)

@@ -103,7 +103,7 @@ module _ (k : Tables) (M : ℕ → Bool) (w : Closed k M) (one-source : OneSourc
   tells i b s e =
       let j = shower (channel_of k i) e in
       elim (cases_Bool (is_source_port k j.at)) [
-        | inl t ↦ ap (λ n. M (port_owner k n)) (one-source i j.at (b, j.below, sym j.same) (source _ s) (source _ t)) ∙ j.member
+        | inl t ↦ ap (λ n. M (port_owner k n)) (one-source i j.at (record { one = b; other = j.below; same = sym j.same }) (source _ s) (source _ t)) ∙ j.member
         | inr t ↦ w.writers i j.at b j.below (fed i j.at s t j.same) j.member
       ]
 
@@ -113,7 +113,7 @@ module _ (k : Tables) (M : ℕ → Bool) (w : Closed k M) (one-source : OneSourc
       let j = shower (channel_of k i) e in
       elim (cases_Bool (is_source_port k j.at)) [
         | inl t ↦ w.readers j.at i j.below b (fed j.at i t d (sym j.same)) (queues i j.at j.same h) j.member
-        | inr t ↦ ap (λ n. M (port_owner k n)) (one-destination i j.at (b, j.below, sym j.same) (kinds _ Queuing h) (destination _ d) (destination _ t)) ∙ j.member
+        | inr t ↦ ap (λ n. M (port_owner k n)) (one-destination i j.at (record { one = b; other = j.below; same = sym j.same }) (kinds _ Queuing h) (destination _ d) (destination _ t)) ∙ j.member
       ]
 
   pub sealed : Sealed k M (seen k M)

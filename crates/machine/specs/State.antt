@@ -99,4 +99,4 @@ applied (clears_all n) q ms = wiped_all n ms
 
 -- the one place where areas are written: the outcome of an event of partition q
 abbrev pub settle : State → ℕ → Out → Stepped
-settle s q o = record { state = record { core = o.core; areas = applied o.effect q s.areas }; reply = o.reply }
+settle s q o = record { state = record s { core = o.core; areas = applied o.effect q s.areas }; reply = o.reply }

@@ -25,7 +25,7 @@ impl<X, const N: usize> Model for Queue<X, N> {
     ghost view = { λ q. entries q.head q.count q.cells };
 
     // the head is one of the cells, where there is one
-    ghost invariant = { λ q. (q.count ≤ N) × (0 < N → q.head < N) };
+    ghost invariant = { λ q. record { few : q.count ≤ N; head : 0 < N → q.head < N } };
 }
 
 impl<X: Copy, const N: usize> Queue<X, N> {

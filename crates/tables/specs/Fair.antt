@@ -27,8 +27,10 @@ abbrev pub Connected : Tables → Type 0
 Connected t = (i : ℕ) → i < t.ports.count → (port_at t i).channel < t.channels.count
 
 -- two ports of one channel
-abbrev pub Share : Tables → ℕ → ℕ → Type 0
-Share t i j = (i < t.ports.count) × (j < t.ports.count) × ((port_at t i).channel ≡ (port_at t j).channel)
+pub record Share (t : Tables) (i j : ℕ) : Type 0 where
+  pub one : i < t.ports.count
+  pub other : j < t.ports.count
+  pub same : (port_at t i).channel ≡ (port_at t j).channel
 
 -- a channel has one source
 abbrev pub OneSource : Tables → Type 0
@@ -41,5 +43,8 @@ OneDestination t =
     (port_at t i).direction ≡ Destination → (port_at t j).direction ≡ Destination → i ≡ j
 
 -- what every vector that is taken keeps
-abbrev pub Fair : Tables → Type 0
-Fair t = AllWithin t.plans × Connected t × OneSource t × OneDestination t
+pub record Fair (t : Tables) : Type 0 where
+  pub within : AllWithin t.plans
+  pub connected : Connected t
+  pub source : OneSource t
+  pub destination : OneDestination t

@@ -44,9 +44,13 @@ pub record SlotInPlace (n : ℕ) (p : Plan) (j : ℕ) : Type 0 where
   pub ascends : (i : ℕ) → i < j → slot_end (slot_at i p) ≤ (slot_at j p).start
   pub ends : slot_end (slot_at j p) ≤ p.frame
 
--- each plan has a slot, and all its slots are in place
+-- a plan has a slot, and all its slots are in place
+pub record PlanInPlace (n : ℕ) (p : Plan) : Type 0 where
+  pub some : 1 ≤ p.slots.count
+  pub each : (j : ℕ) → j < p.slots.count → SlotInPlace n p j
+
 abbrev pub SlotsInPlace : Tables → Type 0
-SlotsInPlace t = (i : ℕ) → i < t.plans.count → (1 ≤ (plan_at i t).slots.count) × ((j : ℕ) → j < (plan_at i t).slots.count → SlotInPlace t.partitions.count (plan_at i t) j)
+SlotsInPlace t = (i : ℕ) → i < t.plans.count → PlanInPlace t.partitions.count (plan_at i t)
 
 -- a port is of a partition and a channel that are there
 abbrev pub PortsBelong : Tables → Type 0
@@ -65,13 +69,14 @@ abbrev pub ports_of : ℕ → List Port → ℕ
 ports_of c [] = 0
 ports_of c (p ∷ ps) = cond (p.channel == c) 1 0 + ports_of c ps
 
--- each channel has two ports or more, as many as its row says, and a queuing channel has two
+-- a channel has two ports or more, as many as its row says, and a queuing channel has two
+pub record ChannelCounted (t : Tables) (c : ℕ) : Type 0 where
+  pub counted : (channel_at c t).ports ≡ ports_of c (take t.ports.count t.ports.rows)
+  pub two : 2 ≤ (channel_at c t).ports
+  pub queues : is_queuing (channel_at c t).kind ≡ true → (channel_at c t).ports ≡ 2
+
 abbrev pub PortsCounted : Tables → Type 0
-PortsCounted t =
-    (c : ℕ) → c < t.channels.count →
-    ((channel_at c t).ports ≡ ports_of c (take t.ports.count t.ports.rows))
-    × (2 ≤ (channel_at c t).ports)
-    × (is_queuing (channel_at c t).kind ≡ true → (channel_at c t).ports ≡ 2)
+PortsCounted t = (c : ℕ) → c < t.channels.count → ChannelCounted t c
 
 -- no two ports of one partition have one name
 abbrev pub PortNamesDiffer : Tables → Type 0
@@ -99,5 +104,8 @@ pub record Lawful (t : Tables) : Type 0 where
   pub lines : LinesOwned t
 
 -- what is kept by the tables of a vector that is taken
-abbrev pub Kept : Tables → Type 0
-Kept t = Sound t × Lawful t × AreasSized t × Fair t
+pub record Kept (t : Tables) : Type 0 where
+  pub sound : Sound t
+  pub lawful : Lawful t
+  pub sized : AreasSized t
+  pub fair : Fair t

@@ -8,28 +8,39 @@ use Rattle.tables.specs.declared.Tables.{Tables}
 use Rattle.tables.specs.Blank.{slot0, plan0, channel0, port0}
 
 -- a frame of 1 to 1,000,000 microseconds, and at most 16 slots of partitions below 8
-abbrev pub SoundPlan : Plan → Type 0
-SoundPlan p = (1 ≤ p.frame) × (p.frame ≤ 1000000) × (p.slots.count ≤ 16) × ((i : ℕ) → i < p.slots.count → (get_or p.slots.rows i slot0).partition < 8)
+pub record SoundPlan (p : Plan) : Type 0 where
+  pub some : 1 ≤ p.frame
+  pub short : p.frame ≤ 1000000
+  pub few : p.slots.count ≤ 16
+  pub owners : (i : ℕ) → i < p.slots.count → (get_or p.slots.rows i slot0).partition < 8
 
 -- 1 to 4 plans, each of them sound
-abbrev pub SoundPlans : Plans → Type 0
-SoundPlans ps = (1 ≤ ps.count) × (ps.count ≤ 4) × ((i : ℕ) → i < ps.count → SoundPlan (slice_index_or ps.rows i plan0))
+pub record SoundPlans (ps : Plans) : Type 0 where
+  pub some : 1 ≤ ps.count
+  pub few : ps.count ≤ 4
+  pub each : (i : ℕ) → i < ps.count → SoundPlan (slice_index_or ps.rows i plan0)
 
 -- messages of at most 1 to 64 bytes, and room for 1 to 8 of them
-abbrev pub SoundChannel : Channel → Type 0
-SoundChannel c = (1 ≤ c.longest) × (c.longest ≤ 64) × (1 ≤ c.depth) × (c.depth ≤ 8)
+pub record SoundChannel (c : Channel) : Type 0 where
+  pub some : 1 ≤ c.longest
+  pub short : c.longest ≤ 64
+  pub room : 1 ≤ c.depth
+  pub shallow : c.depth ≤ 8
 
 -- at most 8 channels, each of them sound
-abbrev pub SoundChannels : Channels → Type 0
-SoundChannels cs = (cs.count ≤ 8) × ((i : ℕ) → i < cs.count → SoundChannel (slice_index_or cs.rows i channel0))
+pub record SoundChannels (cs : Channels) : Type 0 where
+  pub few : cs.count ≤ 8
+  pub each : (i : ℕ) → i < cs.count → SoundChannel (slice_index_or cs.rows i channel0)
 
 -- a port of a partition below 8 and a channel below 8
-abbrev pub SoundPort : Port → Type 0
-SoundPort p = (p.partition < 8) × (p.channel < 8)
+pub record SoundPort (p : Port) : Type 0 where
+  pub partition : p.partition < 8
+  pub channel : p.channel < 8
 
 -- at most 32 ports, each of them sound
-abbrev pub SoundPorts : Ports → Type 0
-SoundPorts ps = (ps.count ≤ 32) × ((i : ℕ) → i < ps.count → SoundPort (slice_index_or ps.rows i port0))
+pub record SoundPorts (ps : Ports) : Type 0 where
+  pub few : ps.count ≤ 32
+  pub each : (i : ℕ) → i < ps.count → SoundPort (slice_index_or ps.rows i port0)
 
 -- a line's owner, if there is one, is a partition below 8
 abbrev pub SoundOwner : Option ℕ → Type 0
@@ -39,7 +50,10 @@ abbrev pub SoundLines : List (Option ℕ) → Type 0
 SoundLines ls = (i : ℕ) → SoundOwner (slice_index_or ls i None)
 
 -- 1 to 8 partitions, and sound plans, channels, ports and lines
-abbrev pub Sound : Tables → Type 0
-Sound t =
-    (1 ≤ t.partitions.count) × (t.partitions.count ≤ 8)
-    × SoundPlans t.plans × SoundChannels t.channels × SoundPorts t.ports × SoundLines t.lines
+pub record Sound (t : Tables) : Type 0 where
+  pub some : 1 ≤ t.partitions.count
+  pub few : t.partitions.count ≤ 8
+  pub plans : SoundPlans t.plans
+  pub channels : SoundChannels t.channels
+  pub ports : SoundPorts t.ports
+  pub lines : SoundLines t.lines

@@ -27,14 +27,19 @@ pub use table::Table;
 #[derive(Clone, Copy, Debug, PartialEq, Eq)]
 pub struct UnknownNumber;
 
+/// The partitions, at most 8.
 pub type Partitions = Table<PartitionRow, 8>;
 
+/// The slots of a plan, at most 16.
 pub type Slots = Table<Slot, 16>;
 
+/// The plans, at most 4.
 pub type Plans = Table<Plan, 4>;
 
+/// The channels, at most 8.
 pub type Channels = Table<Channel, 8>;
 
+/// The ports of all channels, at most 32.
 pub type Ports = Table<Port, 32>;
 
 /// All that a vector says; `lines` are the owners of the interrupt lines 0 to 15, `system` the responses to the
@@ -122,7 +127,8 @@ impl Tables {
 
     /// The interrupt of this number, raised by the source, goes to the partitions of the mask.
     pub fn set_link(&mut self, number: u8, source: u8, mask: u8)
-        requires { (number < 8) × (source < 8) }
+        requires number { number < 8 }
+        requires source { source < 8 }
         ensures { self.new ≡ add_link number source mask self.old }
     {
         self.partitions.rows[source as usize].links[number as usize] = Some(mask);

@@ -53,14 +53,14 @@ module _ (c : ℕ) where
 
 module _ (t : Tables) (l : Lawful t) (size : t.ports.count ≤ length t.ports.rows) where
   within : AllWithin t.plans
-  within i h j k = ((l.slots i h).1 j k).ends
+  within i h j k = ((l.slots i h).each j k).ends
 
   connected : Connected t
   connected i h = (l.belong i h).1
 
   -- the later of two ports of one channel is no source
   one-source : OneSource t
-  one-source i j s a b = same i j (λ h. not_both _ b (l.first i j h s.1 s.2).0) (λ h. not_both _ a (l.first j i h s.0 (sym s.2)).0)
+  one-source i j s a b = same i j (λ h. not_both _ b (l.first i j h s.other s.same).0) (λ h. not_both _ a (l.first j i h s.one (sym s.same)).0)
 
   -- a source stands before every destination of its channel
   source-before : (i s : ℕ) → i < t.ports.count → s < t.ports.count → (laws.port_at i t).channel ≡ (laws.port_at s t).channel →
@@ -86,25 +86,25 @@ module _ (t : Tables) (l : Lawful t) (size : t.ports.count ≤ length t.ports.ro
       let three = counts_three c (take t.ports.count t.ports.rows) s.0 i j h m
       (omega (arith, length-take t.ports.count t.ports.rows))
       (counted s.0 s.1.0 ∙ s.1.1) (counted i (omega arith)) (counted j k ∙ sym e) in
-      omega (arith, n.0, n.2 q, three)
+      omega (arith, n.counted, n.queues q, three)
 
   queues : (d : ChannelKind) → d ≡ Queuing → is_queuing d ≡ true
   queues d e = ap is_queuing e
 
   one-destination : OneDestination t
   one-destination i j s q a b =
-      same i j (λ h. not_after i j h s.1 s.2 (queues _ q) a)
-      (λ h. not_after j i h s.0 (sym s.2) (subst (λ c. is_queuing (laws.channel_at c t).kind ≡ true) s.2 (queues _ q)) b)
+      same i j (λ h. not_after i j h s.other s.same (queues _ q) a)
+      (λ h. not_after j i h s.one (sym s.same) (subst (λ c. is_queuing (laws.channel_at c t).kind ≡ true) s.same (queues _ q)) b)
 
   pub lawful-fair : Fair t
-  lawful-fair = (within, connected, one-source, one-destination)
+  lawful-fair = record { within = within; connected = connected; source = one-source; destination = one-destination }
 
 -- what is kept by the tables of a reading that came to its end
 read-kept : (bs : List ℕ) (s : Sofar) → reading bs ≡ fine s → Kept s.tables
 read-kept bs s e =
     let f = (taken-keeps Fit fit-kept fit-nothing bs s e).0.1 in
     let l = read-lawful bs s e in
-    (l.0, l.1, f.partitions.sized, lawful-fair s.tables l.1 (omega (arith, f.wires.size, f.wires.few)))
+    record { sound = l.0; lawful = l.1; sized = f.partitions.sized; fair = lawful-fair s.tables l.1 (omega (arith, f.wires.size, f.wires.few)) }
 
 -- .. and by those that a vector gives
 takes-kept : (bs : List ℕ) → takes bs ≡ true → Kept (tables bs)
@@ -114,4 +114,4 @@ pub given-kept : (bs : List ℕ) (t : Tables) → takes bs ≡ true → t ≡ ta
 given-kept bs t e g = subst Kept (sym g) (takes-kept bs e)
 
 pub takes-fair : (bs : List ℕ) → takes bs ≡ true → Fair (tables bs)
-takes-fair bs e = (takes-kept bs e).3
+takes-fair bs e = (takes-kept bs e).fair

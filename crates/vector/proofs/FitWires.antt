@@ -47,6 +47,10 @@ abbrev Named : Port → Port → Type 0
 Named a b = a.partition ≡ b.partition → a.name ≡ b.name → ⊥
 
 -- a port of channel c that is its source
+-- a port more leaves a channel sound
+still-sound : (c : Channel) → SoundChannel c → SoundChannel (ported c)
+still-sound c s = record { some = s.some; short = s.short; room = s.room; shallow = s.shallow }
+
 abbrev SourceOf : ℕ → Ports → Type 0
 SourceOf c ps = (i : ℕ) × ((i < ps.count) × ((get_or ps.rows i port0).channel ≡ c) × ((get_or ps.rows i port0).direction ≡ Source))
 
@@ -166,7 +170,7 @@ module _ (n : ℕ) (t : Tables) (x : Port) (f : Wired n t) (h : 1 ≤ t.channels
           rows = length-set _ _ _ ∙ f.rows;
           size = length-set _ _ _ ∙ f.size;
           few = omega arith;
-          sound = λ c l. replaced SoundChannel cs.rows j c (ported o) channel0 (λ _. f.sound j (omega arith)) (f.sound c l);
+          sound = λ c l. replaced SoundChannel cs.rows j c (ported o) channel0 (λ _. still-sound o (f.sound j (omega arith))) (f.sound c l);
           paired = λ c l. replaced (λ (y : Channel). 2 ≤ y.ports) cs.rows j c (ported o) channel0 (λ e. absurd (omega arith)) (f.paired c l);
           queues = λ c l. replaced (λ (y : Channel). is_queuing y.kind ≡ true → y.ports ≤ 2) cs.rows j c (ported o) channel0 (λ _. queues_on full) (f.queues c l);
           counted = λ c l. changed (λ (y : Channel). y.ports ≡ ports_of c (take (ps.count + 1) (set ps.rows ps.count x))) cs.rows j c (ported o) channel0 room

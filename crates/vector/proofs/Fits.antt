@@ -100,13 +100,13 @@ module _ (s : Sofar) where
 
   fit-header : (n m : ℕ) → Room s → Fit s → follows Header s.last ≡ true → (1 ≤ n) × (1 ≤ m) → Fit (with_header n m s)
   fit-header n m r f t x =
-      let z = r.0.1 (first-none s.last t) in
+      let z = r.promised.none (first-none s.last t) in
       let w = f.wires in
       record {
         some = λ _. x;
         partitions = record { size = f.partitions.size; differ = f.partitions.differ; sized = f.partitions.sized; links = λ p i m e. absurd (let o = (f.partitions.links p i m e).0 in omega arith) };
-        plans = record { size = f.plans.size; each = λ i h. absurd (let o = r.1.1 in omega arith) };
-        begun = λ i h. absurd (let o = r.1.1 in omega arith);
+        plans = record { size = f.plans.size; each = λ i h. absurd (let o = r.counted.plans in omega arith) };
+        begun = λ i h. absurd (let o = r.counted.plans in omega arith);
         wires = record { rows = w.rows; size = w.size; few = w.few; sound = w.sound; paired = w.paired; queues = w.queues; counted = w.counted; belong = λ i h. absurd (let o = (w.belong i h).0 in omega arith); first = w.first; names = w.names; sources = w.sources };
         lines = λ i p e. absurd (let o = f.lines i p e in omega arith);
       }
@@ -119,7 +119,7 @@ fit-kept s k (partition c z n) r i x j f =
     let a : s.tables.partitions.count < s.partitions = ltb-true _ _ w.1 in
     record {
       some = still s Partition Partition refl w.0 f;
-      partitions = fit-partition s.partitions s.tables.partitions (row_of c z (padded n.bytes)) f.partitions (omega (arith, r.0.0.0)) j refl x.1.0;
+      partitions = fit-partition s.partitions s.tables.partitions (row_of c z (padded n.bytes)) f.partitions (omega (arith, r.promised.partitions)) j refl x.1.0;
       plans = f.plans;
       begun = not-after-plan Partition s.last _ s.tables.plans refl w.0 f.begun;
       wires = f.wires;
@@ -131,7 +131,7 @@ fit-kept s k (plan g) r i x j f =
     record {
       some = still s Plan Plan refl w.0 f;
       partitions = f.partitions;
-      plans = fit-plan s.partitions s.tables.plans g f.plans (omega (arith, r.0.0.1)) x.1;
+      plans = fit-plan s.partitions s.tables.plans g f.plans (omega (arith, r.promised.plans)) x.1;
       begun = begun-plan s.last s.tables.plans g w.0 f.begun;
       wires = f.wires;
       lines = f.lines;
@@ -140,7 +140,7 @@ fit-kept s k (slot p b d) r i x j f =
     let w = in_turn_lem s k Slot x.0 i in
     let y : slots.Slot = record { partition = p; start = b; duration = d } in
     let a : 1 ≤ s.tables.plans.count = leb-true _ _ w.1 in
-    let l : s.tables.plans.count - 1 < length s.tables.plans.rows = omega (arith, r.0.0.1, r.1.1, f.plans.size) in
+    let l : s.tables.plans.count - 1 < length s.tables.plans.rows = omega (arith, r.promised.plans, r.counted.plans, f.plans.size) in
     record {
       some = still s Slot Slot refl w.0 f;
       partitions = f.partitions;
@@ -157,7 +157,7 @@ fit-kept s k (channel c l d) r i x j f =
       partitions = f.partitions;
       plans = f.plans;
       begun = not-after-plan Channel s.last _ s.tables.plans refl w.0 f.begun;
-      wires = fit-channel s.partitions s.tables (channel_with c l d) f.wires j (x.1.0.0, x.1.0.1, x.1.1.0, omega (arith, deepest_most c)) refl two;
+      wires = fit-channel s.partitions s.tables (channel_with c l d) f.wires j (record { some = x.1.0.0; short = x.1.0.1; room = x.1.1.0; shallow = omega (arith, deepest_most c) }) refl two;
       lines = f.lines;
     }
 fit-kept s k (port p d n) r i x j f =
@@ -167,7 +167,7 @@ fit-kept s k (port p d n) r i x j f =
       partitions = f.partitions;
       plans = f.plans;
       begun = not-after-plan Port s.last _ s.tables.plans refl w.0 f.begun;
-      wires = fit-port s.partitions s.tables (port_in s p d n) f.wires (leb-true _ _ w.1) r.2.0 refl (not_full s j.0) j.1 x.1.0 x.1.1 j.0;
+      wires = fit-port s.partitions s.tables (port_in s p d n) f.wires (leb-true _ _ w.1) r.ported.few refl (not_full s j.0) j.1 x.1.0 x.1.1 j.0;
       lines = f.lines;
     }
 fit-kept s k (ipvi n p m) r i x j f =

@@ -121,7 +121,7 @@ module _ (n m : ℕ) (s : Sofar) (room : Room s) (fit : Fit s) where
       More (stage n m ps pls chs ks [] []) s (said_link x)
   grow-link ps pls chs ks x f y r j = record {
     config = stage n m ps pls chs (x ∷ ks) [] [];
-    grown = record { seen = link-seen n m s ps pls chs ks f.seen room x (omega (arith, r.0.1)) (omega (arith, r.1, room.0.0.0)); promised = f.promised; partitions = f.partitions; plans = f.plans; slots = f.slots; channels = f.channels; ports = f.ports; links = (link_rule n m s ps pls chs ks f.seen room x (next_direction s.tables) r j, f.links); lines = tt; actions = tt };
+    grown = record { seen = link-seen n m s ps pls chs ks f.seen room x (omega (arith, r.0.1)) (omega (arith, r.1, room.promised.partitions)); promised = f.promised; partitions = f.partitions; plans = f.plans; slots = f.slots; channels = f.channels; ports = f.ports; links = (link_rule n m s ps pls chs ks f.seen room x (next_direction s.tables) r j, f.links); lines = tt; actions = tt };
     bytes = add_link_lem n m ps pls chs ks x;
   }
 

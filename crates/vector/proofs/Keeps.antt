@@ -28,7 +28,12 @@ unfoldable pub Kept : (Sofar → Type 0) → Type 0
 Kept P = (s : Sofar) (k : Kind) (x : Said) → Room s → in_turn k s ≡ true → Told k s x → Related s x → P s → P (after s x)
 
 pub room-nothing : Room nothing
-room-nothing = (((omega arith, omega arith), λ e. (refl, refl)), (omega arith, omega arith), (omega arith, λ i. all_alike (λ (c : Channel). c.ports ≤ 0) 8 i (channel_with Sampling 0 0) channel0 (omega arith) (omega arith)))
+room-nothing =
+    record {
+      promised = record { partitions = omega arith; plans = omega arith; none = λ e. (refl, refl) };
+      counted = record { partitions = omega arith; plans = omega arith };
+      ported = record { few = omega arith; within = λ i. all_alike (λ (c : Channel). c.ports ≤ 0) 8 i (channel_with Sampling 0 0) channel0 (omega arith) (omega arith) };
+    }
 
 module _ (P : Sofar → Type 0) (each : Kept P) where
   scanned : (k at : ℕ) (s t : Sofar) (bs : List ℕ) → Room s → P s → read_on k at s bs ≡ fine t → (Room t × P t) × (settled t ≡ true)

@@ -50,21 +50,22 @@ module _ (s : Sofar) (r : Room s) (f : Fit s) (e : settled s ≡ true) where
   all-plans = sym (eqb-true _ _ ended.1.1.0)
 
   sound-plan : (p : plans.Plan) → FitPlan s.partitions p → SoundPlan p
-  sound-plan p g = (g.frame.0, g.frame.1, g.few, λ i h. let o = (g.each i h).partition in omega (arith, r.0.0.0))
+  sound-plan p g = record { some = g.frame.0; short = g.frame.1; few = g.few; owners = λ i h. let o = (g.each i h).partition in omega (arith, r.promised.partitions) }
 
   sound : Sound s.tables
   sound =
       let p = f.some (ends_some s.last ended.0) in
       let n = all-partitions in
       let m = all-plans in
-      let w = f.wires in (
-        omega arith,
-        omega (arith, r.0.0.0),
-        (omega arith, omega (arith, r.0.0.1), λ i h. sound-plan (plan_at i s.tables) (f.plans.each i h)),
-        (r.2.0, w.sound),
-        (w.few, λ i h. let b = w.belong i h in (omega (arith, r.0.0.0), omega (arith, r.2.0))),
-        λ i p q. let o = f.lines i p q in omega (arith, r.0.0.0),
-      )
+      let w = f.wires in
+      record {
+        some = omega arith;
+        few = omega (arith, r.promised.partitions);
+        plans = record { some = omega arith; few = omega (arith, r.promised.plans); each = λ i h. sound-plan (plan_at i s.tables) (f.plans.each i h) };
+        channels = record { few = r.ported.few; each = w.sound };
+        ports = record { few = w.few; each = λ i h. let b = w.belong i h in record { partition = omega (arith, r.promised.partitions); channel = omega (arith, r.ported.few) } };
+        lines = λ i p q. let o = f.lines i p q in omega (arith, r.promised.partitions);
+      }
 
   pub has_slot : (i : ℕ) → i < s.tables.plans.count → 1 ≤ (plan_at i s.tables).slots.count
   has_slot i h = elim (f.begun i h) [ inl o ↦ o | inr z ↦ absurd (false≢true (subst (λ (l : Option Kind). ends l ≡ true) z.1 ended.0)) ]
@@ -82,11 +83,11 @@ module _ (s : Sofar) (r : Room s) (f : Fit s) (e : settled s ≡ true) where
       let w = f.wires in
       record {
         names = f.partitions.differ;
-        slots = λ i h. (has_slot i h, λ j k. subst (λ n. SlotInPlace n (plan_at i s.tables) j) n ((f.plans.each i h).each j k));
+        slots = λ i h. record { some = has_slot i h; each = λ j k. subst (λ n. SlotInPlace n (plan_at i s.tables) j) n ((f.plans.each i h).each j k) };
         belong = λ i h. let b = w.belong i h in (omega arith, b.1);
         first = w.first;
         sources = λ c h. w.sources c h (omega (arith, has_two c h));
-        counted = λ c h. (w.counted c h, has_two c h, λ q. let l = w.queues c h q in omega (arith, has_two c h));
+        counted = λ c h. record { counted = w.counted c h; two = has_two c h; queues = λ q. let l = w.queues c h q in omega (arith, has_two c h) };
         ports = w.names;
         links = λ p i m z. let l = f.partitions.links p i m z in (omega arith, λ q b. let o = mask_others s.partitions p m q l.1 b in (omega arith, o.1));
         lines = λ l p z. let o = f.lines l p z in omega arith;

@@ -49,7 +49,7 @@ reach g g' x r f y w j seen e =
           ap (λ (l : List ℕ). read_on 0 0 nothing (l ++ rest)) e
           ∙ (ap (read_on 0 0 nothing) (append_assoc (encode g) (bytes_of x) rest)
           ∙ (r.scans (bytes_of x ++ rest)
-          ∙ (scan-over s (length (encode g)) x rest r.room.0.0.0 t w j
+          ∙ (scan-over s (length (encode g)) x rest r.room.promised.partitions t w j
           ∙ ap (λ k. read_on 0 k (after s x) rest) (sym (ap length e ∙ length-append (encode g) (bytes_of x))))));
     }
 
@@ -142,7 +142,7 @@ module _ (n m : ℕ) (promised : In 1 8 n × In 1 4 m) where
             let r = reach-links ks h.1 in
             let w = link_meets n m r.sofar ps pls chs ks r.seen r.room x (next_direction r.sofar.tables) h.0 in
             reach _ _ (said_link x) r (either ks Ipvi _ Ipvi refl (open_for Ipvi chs wired refl refl)) (closed_meets n m r.sofar _ r.seen every wired) w.0 w.1
-            (link-seen n m r.sofar ps pls chs ks r.seen r.room x (omega (arith, w.0.0.1)) (omega (arith, w.0.1, r.room.0.0.0))) (add_link_lem n m ps pls chs ks x)
+            (link-seen n m r.sofar ps pls chs ks r.seen r.room x (omega (arith, w.0.0.1)) (omega (arith, w.0.1, r.room.promised.partitions))) (add_link_lem n m ps pls chs ks x)
 
         module _ (ks : List LinkIn) (links : Reach (stage n m ps pls chs ks [] [])) where
           reach-lines : (ls : List LineIn) → Each (LineRule n) ls → Reach (stage n m ps pls chs ks ls [])

@@ -1,5 +1,5 @@
 -- A record that is in turn finds its rows, and leaves room for the next.
-use Rattle.std.proofs.Common.{◌≡◌, ℕ, ◌+◌, ◌-◌, ◌<◌, ◌≤◌, true, false, get_or, set, is_some, Some, None, Option, refl, subst, arith}
+use Rattle.std.proofs.Common.{◌≡◌, ℕ, ◌+◌, ◌-◌, ◌<◌, ◌≤◌, true, false, get_or, set, is_some, Some, None, Option, refl, ap, subst, arith}
 use Rattle.std.proofs.lemmas.Bool.{and_parts, leb-true, ltb-true, false≢true, true≢false}
 use Rattle.tables.specs.Blank.{channel0}
 use Rattle.vector.specs.Bodies.{Said, header, partition, plan, slot, channel, port, ipvi, line, action}
@@ -9,6 +9,9 @@ use Rattle.tables.specs.Events.{InScope}
 use Rattle.vector.specs.Joins.{Ready}
 use Rattle.vector.specs.Ranges.{EventIn}
 use Rattle.vector.specs.Rooms.{Promised, Ported, Room}
+use Rattle.vector.specs.declared.given.Given.{Given}
+use Rattle.tables.specs.declared.Tables.{Tables}
+use Rattle.tables.specs.Tables.{Channels, Ports}
 use Rattle.vector.specs.declared.kind.Kind.{Kind}
 use Rattle.vector.specs.declared.kind.Kind.TheVariants.{Header, Partition, Plan, Slot, Channel, Port, Ipvi, Line, Action}
 use Rattle.tables.specs.declared.response.Scope.{Scope}
@@ -44,37 +47,76 @@ module _ (s : Sofar) where
       let a : 1 ≤ s.tables.plans.count = leb-true _ _ (in_turn_lem k Slot x.0 t).1 in
       (a, omega arith)
   ready_for k (channel c l d) f t x = tt
-  ready_for k (port p d n) f t x = (leb-true _ _ (in_turn_lem k Port x.0 t).1, f.2.0, f.2.1 (s.tables.channels.count - 1), x.1.2.1)
+  ready_for k (port p d n) f t x = (leb-true _ _ (in_turn_lem k Port x.0 t).1, f.ported.few, f.ported.within (s.tables.channels.count - 1), x.1.2.1)
   ready_for k (ipvi n p m) f t x = (omega arith, omega arith)
   ready_for k (line l p) f t x = omega arith
-  ready_for k (action c e a l) f t x = in_scope s.partitions c e f.0.0.0 x.1.0
+  ready_for k (action c e a l) f t x = in_scope s.partitions c e f.promised.partitions x.1.0
 
   -- a record that is not the header leaves what was promised
-  still : (k : Kind) → Promised s → ((s.partitions ≤ 8) × (s.plans ≤ 4)) × (is_some (Some k) ≡ false → (s.partitions ≡ 0) × (s.plans ≡ 0))
-  still k f = (f.0, λ e. absurd (true≢false e))
+  still : (k : Kind) (g : Given) (t : Tables) → Promised s → Promised (record s { last = Some k; given = g; tables = t })
+  still k g t f = record { partitions = f.partitions; plans = f.plans; none = λ e. absurd (true≢false e) }
+
+  -- one that adds no partition, plan, channel or port leaves the room
+  room_still : (k : Kind) (g : Given) (t : Tables) →
+      t.partitions.count ≡ s.tables.partitions.count → t.plans.count ≡ s.tables.plans.count → t.channels ≡ s.tables.channels → t.ports ≡ s.tables.ports →
+      Room s → Room (record s { last = Some k; given = g; tables = t })
+  room_still k g t p q c o f = record {
+    promised = still k g t f.promised;
+    counted = record { partitions = omega (arith, p, f.counted.partitions); plans = omega (arith, q, f.counted.plans) };
+    ported = record {
+      few = omega (arith, ap (λ (x : Channels). x.count) c, f.ported.few);
+      within = λ i. omega (arith, ap (λ (x : Channels). (get_or x.rows i channel0).ports) c, ap (λ (x : Ports). x.count) o, f.ported.within i);
+    };
+  }
 
   -- no channel has more ports than there are, where one of them is changed
   ported_on : (i : ℕ) (c : channels.Channel) (n : ℕ) → Ported s.tables → s.tables.ports.count ≤ n → c.ports ≤ n → (j : ℕ) → (get_or (set s.tables.channels.rows i c) j channel0).ports ≤ n
-  ported_on i c n f h new j = replaced (λ (c : channels.Channel). c.ports ≤ n) s.tables.channels.rows i j c channel0 (λ _. new) (let old = f.1 j in omega arith)
+  ported_on i c n f h new j = replaced (λ (c : channels.Channel). c.ports ≤ n) s.tables.channels.rows i j c channel0 (λ _. new) (let old = f.within j in omega arith)
 
   pub room_after : (k : Kind) (x : Said) → Room s → in_turn k s ≡ true → Told k s x → Related s x → Room (after s x)
   room_after k (header n m) f i x r =
-      let z = f.0.1 (first-none s.last (in_turn_lem k Header x.0 i).0) in
-      (((x.1.0.1, x.1.1.1), λ e. absurd (true≢false e)), (omega arith, omega arith), f.2)
+      let z = f.promised.none (first-none s.last (in_turn_lem k Header x.0 i).0) in
+      record {
+        promised = record { partitions = x.1.0.1; plans = x.1.1.1; none = λ e. absurd (true≢false e) };
+        counted = record { partitions = omega arith; plans = omega arith };
+        ported = f.ported;
+      }
   room_after k (partition c z n) f i x r =
       let a : s.tables.partitions.count < s.partitions = ltb-true _ _ (in_turn_lem k Partition x.0 i).1 in
-      (still Partition f.0, (omega arith, f.1.1), f.2)
+      record {
+        promised = still Partition s.given _ f.promised;
+        counted = record { partitions = omega arith; plans = f.counted.plans };
+        ported = record { few = f.ported.few; within = f.ported.within };
+      }
   room_after k (plan g) f i x r =
       let a : s.tables.plans.count < s.plans = ltb-true _ _ (and_parts _ _ (in_turn_lem k Plan x.0 i).1).1 in
-      (still Plan f.0, (f.1.0, omega arith), f.2)
-  room_after k (slot p b d) f i x r = (still Slot f.0, f.1, f.2)
+      record {
+        promised = still Plan s.given _ f.promised;
+        counted = record { partitions = f.counted.partitions; plans = omega arith };
+        ported = record { few = f.ported.few; within = f.ported.within };
+      }
+  room_after k (slot p b d) f i x r = room_still Slot s.given _ refl refl refl refl f
   room_after k (channel c l d) f i x r =
-      (still Channel f.0, f.1, (omega arith, ported_on s.tables.channels.count (channel_with c l d) s.tables.ports.count f.2 (omega arith) (omega arith)))
+      record {
+        promised = still Channel s.given _ f.promised;
+        counted = record { partitions = f.counted.partitions; plans = f.counted.plans };
+        ported = record {
+          few = omega arith;
+          within = ported_on s.tables.channels.count (channel_with c l d) s.tables.ports.count f.ported (omega arith) (omega arith);
+        };
+      }
   room_after k (port p d n) f i x r =
       let j = s.tables.channels.count - 1 in
-      let old = f.2.1 j in
-      (still Port f.0, f.1, (f.2.0, ported_on j (ported (open_channel s.tables)) (s.tables.ports.count + 1) f.2 (omega arith) (omega arith)))
-  room_after k (ipvi n p m) f i x r = (still Ipvi f.0, f.1, f.2)
-  room_after k (line l p) f i x r = (still Line f.0, f.1, f.2)
-  room_after k (action (scopes.Partition p) e a l) f i x r = (still Action f.0, f.1, f.2)
-  room_after k (action scopes.System e a l) f i x r = (still Action f.0, f.1, f.2)
+      let old = f.ported.within j in
+      record {
+        promised = still Port s.given _ f.promised;
+        counted = record { partitions = f.counted.partitions; plans = f.counted.plans };
+        ported = record {
+          few = f.ported.few;
+          within = ported_on j (ported (open_channel s.tables)) (s.tables.ports.count + 1) f.ported (omega arith) (omega arith);
+        };
+      }
+  room_after k (ipvi n p m) f i x r = room_still Ipvi s.given _ refl refl refl refl f
+  room_after k (line l p) f i x r = room_still Line s.given _ refl refl refl refl f
+  room_after k (action (scopes.Partition p) e a l) f i x r = room_still Action _ _ refl refl refl refl f
+  room_after k (action scopes.System e a l) f i x r = room_still Action _ _ refl refl refl refl f

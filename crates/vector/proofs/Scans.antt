@@ -119,12 +119,15 @@ module _ (at : ℕ) (s : Sofar) where
 
 -- the reader's answers, and where it stands after them
 module _ (p q : Point) where
-  pub goes_on : (y : Shown) → fine (Some y) ≡ shown (next p) → q ≡ moved p (next p) → (scan_from q ≡ scan_from p) × (length q.rest < length p.rest)
+  pub goes_on : (y : Shown) → fine (Some y) ≡ shown (next p) → q ≡ moved p (next p) → record { same : scan_from q ≡ scan_from p; less : length q.rest < length p.rest }
   goes_on y e m =
       let o = shown-some (next p) y e in
       let w = next-some p.at p.sofar p.rest o.0 o.1 in
       let i : o.0.point ≡ q = sym (m ∙ ap (moved p) o.1) in
-      subst (λ (q : Point). (scan_from q ≡ scan_from p) × (length q.rest < length p.rest)) i w
+      record {
+        same = subst (λ (q : Point). scan_from q ≡ scan_from p) i w.0;
+        less = subst (λ (q : Point). length q.rest < length p.rest) i w.1;
+      }
 
   pub stops : fine None ≡ shown (next p) → q ≡ moved p (next p) → scan_from p ≡ fine q.sofar
   stops e m =

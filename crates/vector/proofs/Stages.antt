@@ -111,7 +111,7 @@ module _ (n m : ℕ) (s : Sofar) where
           last = refl;
           count = f.count;
           planned = f.planned;
-          partitions = seen-partition ps s.tables.partitions p row f.partitions (omega (arith, r.0.0.0, w.partitions.size)) (ap padded e);
+          partitions = seen-partition ps s.tables.partitions p row f.partitions (omega (arith, r.promised.partitions, w.partitions.size)) (ap padded e);
           plans = f.plans;
           wires = f.wires;
           links = no_links s.tables.partitions row f.links refl;
@@ -137,7 +137,7 @@ module _ (n m : ℕ) (s : Sofar) where
           count = f.count;
           planned = f.planned;
           partitions = f.partitions;
-          plans = seen-plan pls s.tables.plans g f.plans (omega (arith, r.0.0.1, w.plans.size));
+          plans = seen-plan pls s.tables.plans g f.plans (omega (arith, r.promised.plans, w.plans.size));
           wires = f.wires;
           links = f.links;
           lines = f.lines;
@@ -163,7 +163,7 @@ module _ (n m : ℕ) (s : Sofar) where
           count = f.count;
           planned = f.planned;
           partitions = f.partitions;
-          plans = seen-slot p pls s.tables.plans x f.plans (omega (arith, r.0.0.1, r.1.1, w.plans.size)) (omega (arith, (w.plans.each (s.tables.plans.count - 1) k).size));
+          plans = seen-slot p pls s.tables.plans x f.plans (omega (arith, r.promised.plans, r.counted.plans, w.plans.size)) (omega (arith, (w.plans.each (s.tables.plans.count - 1) k).size));
           wires = f.wires;
           links = f.links;
           lines = f.lines;
@@ -249,7 +249,7 @@ module _ (n m : ℕ) (s : Sofar) where
       planned = f.planned;
       partitions = f.partitions;
       plans = f.plans;
-      wires = seen-port c chs s.tables.channels s.tables.ports p d f.wires (omega (arith, r.2.0, w.wires.rows, f.wires.count)) (omega (arith, w.wires.size));
+      wires = seen-port c chs s.tables.channels s.tables.ports p d f.wires (omega (arith, r.ported.few, w.wires.rows, f.wires.count)) (omega (arith, w.wires.size));
       links = f.links;
       lines = f.lines;
       actions = f.actions;
@@ -259,13 +259,13 @@ module _ (n m : ℕ) (s : Sofar) where
     pub link_rule : (x : LinkIn) (d : Direction) → Ranged s.partitions d (said_link x) → Related s (said_link x) → LinkRule n ks x
     link_rule x d a j =
         let low : x.number < 8 = omega (arith, a.0.1) in
-        let there : x.source < 8 = omega (arith, a.1, r.0.0.0) in
+        let there : x.source < 8 = omega (arith, a.1, r.promised.partitions) in
         (a.0, omega (arith, a.1, f.count), subst (λ k. Mask k x.source x.mask) f.count a.2, sym (f.links.links x.source x.number there low) ∙ j)
 
     pub link_meets : (x : LinkIn) (d : Direction) → LinkRule n ks x → Ranged s.partitions d (said_link x) × Related s (said_link x)
     link_meets x d a =
         let low : x.number < 8 = omega (arith, a.0.1) in
-        let there : x.source < 8 = omega (arith, a.1, f.count, r.0.0.0) in
+        let there : x.source < 8 = omega (arith, a.1, f.count, r.promised.partitions) in
         ((a.0, omega (arith, a.1, f.count), subst (λ k. Mask k x.source x.mask) (sym f.count) a.2), f.links.links x.source x.number there low ∙ a.3)
 
     pub link-seen : (x : LinkIn) → x.number < 8 → x.source < 8 → Seen (stage n m ps pls chs (x ∷ ks) [] []) (after s (said_link x))
@@ -303,7 +303,7 @@ module _ (n m : ℕ) (s : Sofar) where
 
   module _ (ps : List PartitionIn) (pls : List PlanIn) (chs : List ChannelIn) (ks : List LinkIn) (ls : List LineIn) (xs : List ActionIn) (f : Seen (stage n m ps pls chs ks ls xs) s) (r : Room s) where
     pub action-scope : (x : ActionIn) → EventIn s.partitions x.scope x.event → InScope x.scope x.event
-    action-scope x a = in_scope s.partitions x.scope x.event r.0.0.0 a
+    action-scope x a = in_scope s.partitions x.scope x.event r.promised.partitions a
 
     pub action_rule : (x : ActionIn) (d : Direction) → Ranged s.partitions d (said_action x) → Related s (said_action x) → ActionRule n xs x
     action_rule x d a j = (subst (λ k. EventIn k x.scope x.event) f.count a.0, a.1, sym (f.actions.given x.scope x.event (action-scope x a.0)) ∙ j)

@@ -5,16 +5,22 @@ use Rattle.vector.specs.declared.sofar.Sofar.{Sofar}
 use Rattle.tables.specs.declared.Tables.{Tables}
 
 -- at most 8 partitions and 4 plans are promised, and none before the header
-abbrev pub Promised : Sofar → Type 0
-Promised s = ((s.partitions ≤ 8) × (s.plans ≤ 4)) × (is_some s.last ≡ false → (s.partitions ≡ 0) × (s.plans ≡ 0))
+pub record Promised (s : Sofar) : Type 0 where
+  pub partitions : s.partitions ≤ 8
+  pub plans : s.plans ≤ 4
+  pub none : is_some s.last ≡ false → (s.partitions ≡ 0) × (s.plans ≡ 0)
 
 -- no more come than were promised
-abbrev pub Counted : Sofar → Type 0
-Counted s = (s.tables.partitions.count ≤ s.partitions) × (s.tables.plans.count ≤ s.plans)
+pub record Counted (s : Sofar) : Type 0 where
+  pub partitions : s.tables.partitions.count ≤ s.partitions
+  pub plans : s.tables.plans.count ≤ s.plans
 
 -- there are at most 8 channels, and none has more ports than there are
-abbrev pub Ported : Tables → Type 0
-Ported t = (t.channels.count ≤ 8) × ((i : ℕ) → (slice_index_or t.channels.rows i channel0).ports ≤ t.ports.count)
+pub record Ported (t : Tables) : Type 0 where
+  pub few : t.channels.count ≤ 8
+  pub within : (i : ℕ) → (slice_index_or t.channels.rows i channel0).ports ≤ t.ports.count
 
-abbrev pub Room : Sofar → Type 0
-Room s = Promised s × Counted s × Ported s.tables
+pub record Room (s : Sofar) : Type 0 where
+  pub promised : Promised s
+  pub counted : Counted s
+  pub ported : Ported s.tables

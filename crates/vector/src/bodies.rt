@@ -146,7 +146,8 @@ fn port<'a>(body: Body<'a>, partitions: u8, direction: Direction) -> Result<Reco
 }
 
 fn ipvi<'a>(body: Body<'a>, partitions: u8) -> Result<Record<'a>, FieldFault>
-    requires { (length body.bytes.now ≡ 3) × (partitions ≤ 8) }
+    requires three { length body.bytes.now ≡ 3 }
+    requires few { partitions ≤ 8 }
     ensures { out field_reason said_of result ≡ ipvi_of partitions body.entry.at body.entry.bytes.now }
 {
     let [number, source, mask] = body.bytes else {

@@ -68,7 +68,8 @@ fn has_bit(mask: u8, bit: u8) -> bool
 
 /// A mask names existing partitions, and not the source.
 pub(crate) fn is_mask(mask: u8, source: u8, partitions: u8, at: usize) -> Result<(), FieldFault>
-    requires { (source < partitions) × (partitions ≤ 8) }
+    requires source { source < partitions }
+    requires few { partitions ≤ 8 }
     ensures { out field_reason (λ u. u) result ≡ masked partitions source at mask }
 {
     if (mask as u16) >> partitions == 0 && !has_bit(mask, source) {

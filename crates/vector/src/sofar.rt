@@ -128,7 +128,8 @@ impl Sofar {
     }
 
     fn join_slot(&mut self, slot: Slot, at: usize) -> Result<(), RelationFault>
-        requires { (1 ≤ self.now.tables.plans.count) × (self.now.tables.plans.count ≤ 4) }
+        requires begun { 1 ≤ self.now.tables.plans.count }
+        requires few { self.now.tables.plans.count ≤ 4 }
         ensures is { left_by result self.new ≡ joined_slot at self.old slot }
         ensures kept { IfErr result (λ _. self.new ≡ self.old) }
     {
@@ -179,7 +180,8 @@ impl Sofar {
         mask: u8,
         at: usize,
     ) -> Result<(), RelationFault>
-        requires { (number < 8) × (source < 8) }
+        requires number { number < 8 }
+        requires source { source < 8 }
         ensures is { left_by result self.new ≡ joined_link at self.old number source mask }
         ensures kept { IfErr result (λ _. self.new ≡ self.old) }
     {

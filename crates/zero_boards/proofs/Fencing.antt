@@ -65,7 +65,7 @@ module _ (t : Tables) (s : AreasSized t) (n : ℕ) (room : 8192 ≤ n) where
       ∙ zeros_of i h)
 
   pub fences-laid : (fences : List Fence) → fences ≡ fences_of (sizes_of t) →
-      (sound_fences fences n ≡ true) × (parts (replicate n 0) fences ≡ zeroed t)
+      record { sound : sound_fences fences n ≡ true; zeroed : parts (replicate n 0) fences ≡ zeroed t }
   fences-laid fences e =
       let f : fences ≡ counted = e ∙ counted-is in
-      (rw f fences-sound, rw f fences-zeroed)
+      record { sound = rw f fences-sound; zeroed = rw f fences-zeroed }

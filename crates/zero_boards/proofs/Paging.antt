@@ -75,7 +75,7 @@ module _ (t : Tables) (s : AreasSized t) (n : ℕ) (room : 8192 ≤ n) where
       (λ i h. get_or-map-range_with_len (paged_area (replicate n 0) table) 0 8 i i [] h (omega arith) ∙ zeros_of i h)
 
   pub pages-laid : (areas : List Pages) → areas ≡ pages_of (sizes_of t) →
-      (sound_pages areas n ≡ true) × (paged (replicate n 0) areas ≡ zeroed t)
+      record { sound : sound_pages areas n ≡ true; zeroed : paged (replicate n 0) areas ≡ zeroed t }
   pages-laid areas e =
       let f : areas ≡ table = e ∙ table-is in
-      (rw f pages-sound, rw f pages-zeroed)
+      record { sound = rw f pages-sound; zeroed = rw f pages-zeroed }

@@ -10,20 +10,21 @@ loop-at-preserved g c =
     let e = sym c.byte.ensures ∙ c.in-Some.is in
     let b : c.in-Some.byte < 256 = search rules in
     let w = loaded-within ms c.args.i c.loop-at.at _ e in
-    let m : c.loop-at.at + 1 ≤ length (area ms c.args.i) = omega arith in (
-      next-byte _ _ ms c.args.i c.loop-at.at c.loop-at.invariant.0 _ _ e
-          (hex-written _ _ _ _ _ c.in_radix.ensures (ap (λ z. styled_digits_output c.in_radix.result z) c.laid_out.ensures) b c.in_ok-write.ensures.bytes),
-      m,
-    )
+    record {
+      written =
+          next-byte _ _ ms c.args.i c.loop-at.at c.loop-at.invariant.written _ _ e
+          (hex-written _ _ _ _ _ c.in_radix.ensures (ap (λ z. styled_digits_output c.in_radix.result z) c.laid_out.ensures) b c.in_ok-write.ensures.bytes);
+      within = omega arith;
+    }
 
 pub returns-in_default : goal.returns-in_default
 returns-in_default g c =
     let ms = g.B.Board.areas c.args.system.now.board in
     let e = sym c.byte.ensures ∙ c.in_default.is in
     let h : c.loop-at.at ≤ 1024 = search rules in
-    all-bytes _ _ ms c.args.i c.loop-at.at c.loop-at.invariant.0 h (loaded-past ms c.args.i c.loop-at.at e)
+    all-bytes _ _ ms c.args.i c.loop-at.at c.loop-at.invariant.written h (loaded-past ms c.args.i c.loop-at.at e)
 
 pub returns : goal.returns
 returns g c =
     let e : c.loop-at.at ≡ 1024 = search rules in
-    rw e at c.loop-at.invariant.0
+    rw e at c.loop-at.invariant.written

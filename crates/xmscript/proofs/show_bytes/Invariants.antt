@@ -9,4 +9,4 @@ use Rattle.xmscript.proofs.show_bytes.Given as goal
 abbrev pub invariant-loop-at : goal.invariant-loop-at
 invariant-loop-at g l =
     let bytes = area (g.B.Board.areas l.system.board) l.i in
-    Appends (g.W.Write.contents l.fn.writer) (g.W.Write.contents l.writer) (flat_map in_hex (take l.at bytes)) × (l.at ≤ length bytes)
+    record { written : Appends (g.W.Write.contents l.fn.writer) (g.W.Write.contents l.writer) (flat_map in_hex (take l.at bytes)); within : l.at ≤ length bytes }

@@ -31,4 +31,4 @@ returns c =
     let k = s.tables in
     let p = c.args.partition in
     let e : c.loop-round.found ≡ circle_of k p = search rules in
-    record { is = e; least = subst (λ (m : ℕ). Circle k p (bit m)) (sym e) (circled k (s.sound.1, λ i h. (s.sound.4.1 i h).0) p c.requires) }
+    record { is = e; least = subst (λ (m : ℕ). Circle k p (bit m)) (sym e) (circled k (s.sound.few, λ i h. (s.sound.ports.each i h).partition) p c.requires) }

@@ -12,6 +12,6 @@ pub loop-i-preserved : goal.loop-i-preserved
 unfolding fits_below
 loop-i-preserved g c =
     let table = c.args.self.now.tables.partitions in
-    let n : c.loop-i.i < table.count = omega (arith, c.as_slice-row-items.ensures.all c.args.self.now.sound.1, c.loop-i-test.true) in
+    let n : c.loop-i.i < table.count = omega (arith, c.as_slice-row-items.ensures.all c.args.self.now.sound.few, c.loop-i-test.true) in
     let e = row table.count table.rows _ c.as_slice-row-items.ensures.is c.loop-i.i row0 n in
     rw add-one (search (rules, e))

@@ -13,7 +13,7 @@ ends c =
     let i = c.loop-slot.slot-index in
     let n : i < table.count = omega (arith, length-take table.count table.rows, ap length e, c.loop-slot-test.true) in
     let s = ap (λ ss. get_or ss i slot0) e ∙ get_or-take table.count table.rows i slot0 n in
-    omega (arith, c.requires.within i n, c.requires.sound.1, ap (λ (x : Slot). x.start) s, ap (λ (x : Slot). x.duration) s)
+    omega (arith, c.requires.within i n, c.requires.sound.short, ap (λ (x : Slot). x.start) s, ap (λ (x : Slot). x.duration) s)
 
 pub loop-slot-preserved : goal.loop-slot-preserved
 loop-slot-preserved c =

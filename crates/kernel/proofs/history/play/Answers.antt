@@ -11,9 +11,9 @@ returns g c =
     let z = over _ _ _ _ _ _ _ c.boot-system.ensures.is (omega arith) c.loop-exchange.invariant in
     let k = c.boot-system.ensures.kept in
     record {
-      ends = z.0;
-      told = z.1;
-      isolated = isolating _ _ _ _ _ k.3 z.0 z.1;
-      preserved = preserving _ _ _ _ z.0;
-      lawful = lawful _ k.0 k.1 _ _ _ z.0;
+      ends = z.ends;
+      told = z.told;
+      isolated = isolating _ _ _ _ _ k.fair z.ends z.told;
+      preserved = preserving _ _ _ _ z.ends;
+      lawful = lawful _ k.sound k.lawful _ _ _ z.ends;
     }

@@ -12,7 +12,7 @@ loop-i-init c =
 pub bounds-parts-port : goal.bounds-parts-port
 bounds-parts-port c =
     let d = c.args.config.now in
-    (d.sound.4.1 _ (there d.tables c.args.c c.args.parts.now _ _ c.in-Some.i _ c.in-Some.ensures c.loop-i.invariant)).0
+    (d.sound.ports.each _ (there d.tables c.args.c c.args.parts.now _ _ c.in-Some.i _ c.in-Some.ensures c.loop-i.invariant)).partition
 
 pub loop-i-preserved : goal.loop-i-preserved
 loop-i-preserved c =

@@ -16,7 +16,7 @@ pub loop-rest-preserved : goal.loop-rest-preserved
 loop-rest-preserved c =
     let is : c.next_event.result ≡ Some c.in_ok-cut.cut = grind arith in
     let cut = rw is at c.next_event.ensures in
-    rw c.in_ok-push.ensures.items (next (vec_items c.loop-rest.history) _ _ _ c.loop-rest-test.ensures cut.0 cut.1 ∙ c.loop-rest.invariant)
+    rw c.in_ok-push.ensures.items (next (vec_items c.loop-rest.history) _ _ _ c.loop-rest-test.ensures cut.event cut.rest ∙ c.loop-rest.invariant)
 
 pub returns : goal.returns
 returns c = sym c.loop-rest.invariant ∙ at_end _ _ c.loop-rest-test.ensures

@@ -6,4 +6,4 @@ pub loop-queue-preserved : goal.loop-queue-preserved
 loop-queue-preserved c = search (emptied-more, rules)
 
 pub returns : goal.returns
-returns c = emptied c.loop-queue.queue-items c.loop-queue.invariant.0 (search rules)
+returns c = emptied c.loop-queue.queue-items c.loop-queue.invariant.eight (search rules)

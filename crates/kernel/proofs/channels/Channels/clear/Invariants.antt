@@ -3,4 +3,4 @@ use Rattle.kernel.proofs.channels.Channels.clear.Given as goal
 
 -- the queues so far are empty
 abbrev pub invariant-loop-queue : goal.invariant-loop-queue
-invariant-loop-queue l = (length l.queue-items ≡ 8) × (take l.queue-index l.queue-items ≡ replicate l.queue-index [])
+invariant-loop-queue l = record { eight : length l.queue-items ≡ 8; empty : take l.queue-index l.queue-items ≡ replicate l.queue-index [] }

@@ -10,7 +10,7 @@ join-requires c =
     let r = c.args.self.now in
     let cut = c.in_ok-cut.cut in
     let o = cut_off r.at r.rest.now (framed_of cut) (sym c.in_ok-cut.ensures) in
-    heard-ready r.at r.sofar cut.kind cut.body.now (said_of c.in_ok-said.said) o.suited (sym c.in_ok-said.ensures) (r.promised, r.counted, r.ported)
+    heard-ready r.at r.sofar cut.kind cut.body.now (said_of c.in_ok-said.said) o.suited (sym c.in_ok-said.ensures) (record { promised = r.promised; counted = r.counted; ported = r.ported })
 
 pub overflow_add-self-2 : goal.overflow_add-self-2
 overflow_add-self-2 c =
@@ -23,5 +23,5 @@ invariant_of-self-2 c =
     let r = c.args.self.now in
     let cut = c.in_ok-cut.cut in
     let o = cut_off r.at r.rest.now (framed_of cut) (sym c.in_ok-cut.ensures) in
-    let w = heard-room r.at r.sofar cut.kind cut.body.now (said_of c.in_ok-said.said) o.suited (sym c.in_ok-said.ensures) c.join.new.self (r.promised, r.counted, r.ported) (sym c.in_ok-join.ensures.is) in
-    record { promised = w.0; counted = w.1; ported = w.2; small = omega (arith, o.size) }
+    let w = heard-room r.at r.sofar cut.kind cut.body.now (said_of c.in_ok-said.said) o.suited (sym c.in_ok-said.ensures) c.join.new.self (record { promised = r.promised; counted = r.counted; ported = r.ported }) (sym c.in_ok-join.ensures.is) in
+    record { promised = w.promised; counted = w.counted; ported = w.ported; small = omega (arith, o.size) }

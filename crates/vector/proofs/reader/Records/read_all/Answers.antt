@@ -13,12 +13,12 @@ returns-in_err-next_record c =
 pub loop-smaller : goal.loop-smaller
 loop-smaller c =
     let e = c.in_ok-next_record.ensures in
-    (goes_on (point_of c.loop.self) (point_of c.next_record.new.self) _ (ap (λ o. fine (shown_of o)) (sym c.in-Some.is) ∙ e.answer) e.after).1
+    (goes_on (point_of c.loop.self) (point_of c.next_record.new.self) _ (ap (λ o. fine (shown_of o)) (sym c.in-Some.is) ∙ e.answer) e.after).less
 
 pub loop-preserved : goal.loop-preserved
 loop-preserved c =
     let e = c.in_ok-next_record.ensures in
-    (goes_on (point_of c.loop.self) (point_of c.next_record.new.self) _ (ap (λ o. fine (shown_of o)) (sym c.in-Some.is) ∙ e.answer) e.after).0 ∙ c.loop.invariant
+    (goes_on (point_of c.loop.self) (point_of c.next_record.new.self) _ (ap (λ o. fine (shown_of o)) (sym c.in-Some.is) ∙ e.answer) e.after).same ∙ c.loop.invariant
 
 pub returns : goal.returns
 returns c =
